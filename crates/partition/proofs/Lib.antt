@@ -1,0 +1,15 @@
+pub mod Members
+pub mod ClassLaws
+pub mod WalkLaws
+pub mod JoinedPartition
+pub mod Labels
+pub mod RebuildLaw
+pub mod NetLaws
+pub mod EmptyLaw
+pub mod DigitLaws
+pub mod FieldLaw
+pub mod DigitsLemmas
+pub mod HeadLemmas
+pub mod PickedLemmas
+pub mod SamePartition
+pub mod MergeLemmas

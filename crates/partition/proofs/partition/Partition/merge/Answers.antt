@@ -1,0 +1,18 @@
+use Rattle.std.proofs.Common.{◌≡◌, ℕ, List, sym, ◌∙◌, ap, subst, arith, take, drop, length, ◌++◌, map, cond, eqb}
+use Rattle.partition.specs.Classes.{merged}
+use Rattle.partition.specs.Partitions.{IsPartitionValue}
+use Rattle.partition.proofs.MergeLemmas.{merged-valid, merged-is, written-back}
+use Rattle.partition.proofs.partition.Partition.merge.Goals as goal
+
+made : (c : goal.After-self-1) → take c.self.inside.classes.len (c.relabel.new.classes ++ drop (length c.relabel.new.classes) c.self.inside.classes.items) ≡ merged c.args.self.now c.args.a c.args.b
+made c =
+    written-back c.relabel.new.classes c.self.inside.classes.items c.self.inside.classes.len (omega (arith, c.relabel.auto.classes, c.deref_mut.ensures.len, ap length c.deref_mut.ensures.value)) (omega (arith, c.deref_mut.ensures.len, ap length c.deref_mut.ensures.value))
+    ∙ merged-is c.args.self.now c.relabel.new.classes c.args.a c.args.b c.class_of-one.result c.class_of-other.result c.ordered-low.result.0 c.ordered-low.result.1
+    c.class_of-one.ensures c.class_of-other.ensures c.ordered-low.ensures.low c.ordered-low.ensures.high
+    (c.relabel.ensures ∙ ap (map (λ x. cond (eqb x c.ordered-low.result.1) c.ordered-low.result.0 x)) (c.deref_mut.ensures.value ∙ c.self.view_is))
+
+pub invariant_of-self : goal.invariant_of-self
+invariant_of-self c = subst IsPartitionValue (sym (made c)) (merged-valid c.args.self.now c.args.a c.args.b c.requires.a c.requires.b (subst IsPartitionValue c.self.view_is c.self.invariant))
+
+pub returns : goal.returns
+returns c = made c

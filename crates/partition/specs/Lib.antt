@@ -1,0 +1,9 @@
+pub mod Classes
+pub mod Partitions
+pub mod Heads
+pub mod NetTable
+pub mod Difference
+pub mod Rebuild
+pub mod Digits
+pub mod Picked
+pub mod Laws

@@ -1,0 +1,62 @@
+//! The laws of the definitions, each the contract of a function that does nothing.
+
+ghost use Rattle.std.specs.Prelude.{List, ℕ, ◌≤◌, ◌↔◌, length};
+ghost use Rattle.partition.specs.Classes.{points_below, AllBelow, JoinsBelow, IsPartition};
+ghost use Rattle.partition.specs.Partitions.{IsPartitionOfAll};
+ghost use Rattle.partition.specs.NetTable.{NetTable, IsNetTable, judged_points};
+ghost use Rattle.partition.specs.Laws.{LabelLaw, PartitionLaw, JudgedLaw, EqualLaw, WalkLaw, JoinLaw, NetLaw, HeadLaw, DifferenceLaw, DigitLaw};
+
+/// Points of equal label are the classes of a partition.
+pub fn labels_make_classes()
+    ensures { (js : List ℕ) (n : ℕ) (label : ℕ → ℕ) → AllBelow js n → LabelLaw js n label }
+{}
+
+/// A partition is what its fields say.
+pub fn partitions_have_least_points()
+    ensures { PartitionLaw }
+{}
+
+/// A partition of all points is one of the points below their number.
+pub fn partitions_of_all_points()
+    ensures { (m : List ℕ) → IsPartitionOfAll m ↔ IsPartition (points_below (length m)) (length m) m }
+{}
+
+/// The points that count are those with a class.
+pub fn counted_points_are_read_off()
+    ensures { (js : List ℕ) (n : ℕ) (m : List ℕ) → n ≤ 65535 → AllBelow js n → IsPartition js n m → JudgedLaw js n m }
+{}
+
+/// Partitions are told apart by the points that they join.
+pub fn partitions_are_told_by_points()
+    ensures { EqualLaw }
+{}
+
+/// Being linked by a walk is an equivalence.
+pub fn walks_are_an_equivalence()
+    ensures { WalkLaw }
+{}
+
+/// Two points have one computed class exactly where a walk of joins links them.
+pub fn joins_make_classes()
+    ensures { (joins : List (ℕ × ℕ)) (n : ℕ) → JoinsBelow joins n → JoinLaw joins n }
+{}
+
+/// The programmed partition has the nets as classes.
+pub fn nets_are_classes()
+    ensures { (t : NetTable) → IsNetTable t → NetLaw t }
+{}
+
+/// The head of a net whose points ascend is its first point.
+pub fn heads_come_first()
+    ensures { HeadLaw }
+{}
+
+/// The three lists determine the partition, and are all empty exactly where it is the programmed one.
+pub fn difference_determines_partition()
+    ensures { (t : NetTable) (m : List ℕ) → IsNetTable t → IsPartition (judged_points t) t.points m → DifferenceLaw t m }
+{}
+
+/// Different numbers differ in one of the digits that the greatest of them needs.
+pub fn digits_tell_numbers_apart()
+    ensures { (n : ℕ) → DigitLaw n }
+{}

@@ -1,0 +1,84 @@
+//! Lists of groups of points, and of the numbers of nets.
+
+use crate::{Point, PointList};
+use base::Memory;
+use std::alloc::Global;
+use std::marker::Model;
+
+/// A list of groups of points.
+#[derive(Debug, Drop)]
+pub struct PointLists {
+    lists: Vec<PointList>,
+}
+
+impl Model for PointLists {
+    ghost use Rattle.std.specs.Prelude.{ℕ, List};
+
+    ghost Value = { List (List ℕ) };
+
+    ghost view = { λ l. l.lists.items };
+}
+
+/// The nets of a wirelist as they are listed, each as its points.
+#[derive(Debug, Drop)]
+pub struct NetLists {
+    lists: Vec<PointList>,
+}
+
+impl Model for NetLists {
+    ghost use Rattle.std.specs.Prelude.{ℕ, List};
+
+    ghost Value = { List (List ℕ) };
+
+    ghost view = { λ l. l.lists.items };
+}
+
+impl NetLists {
+    ghost use Rattle.std.specs.Prelude.{◌≡◌, ◌++◌, ◌∷◌, ◌<◌, [], length, slice_index_or, OnOk, OnErr};
+
+    /// The empty list.
+    pub fn new(alloc: Global) -> Self
+        ensures { result ≡ [] }
+    {
+        NetLists {
+            lists: Vec::new(alloc),
+        }
+    }
+
+    pub fn len(&self) -> usize
+        ensures { result ≡ length self.now }
+    {
+        self.lists.len()
+    }
+
+    /// The points of the net with this number.
+    pub fn net(&self, i: usize) -> &[Point]
+        requires { i < length self.now }
+        ensures { result.now ≡ slice_index_or self.now i [] }
+    {
+        self.lists[i].as_slice()
+    }
+
+    /// Appends a net.
+    pub fn push(&mut self, net: PointList) -> Result<(), Memory>
+        ensures ok { OnOk result (self.new ≡ self.old ++ net ∷ []) }
+        ensures err { OnErr result (self.new ≡ self.old) }
+    {
+        self.lists.push(net)?;
+        Ok(())
+    }
+}
+
+/// Numbers of nets.
+#[derive(Debug, Drop)]
+pub struct NetNumbers {
+    numbers: Vec<u32>,
+}
+
+impl Model for NetNumbers {
+    ghost use Rattle.std.specs.Prelude.{ℕ, List};
+
+    ghost Value = { List ℕ };
+
+    ghost view = { λ l. l.numbers.items };
+}

@@ -1,0 +1,124 @@
+//! Partitions of the points.
+
+ghost use Rattle.std.specs.Prelude.{◌≡◌, ℕ, ◌<◌, ◌^◌, ◌↔◌, ◌==◌, IsTrue, List, length, map, min, max, if◌then◌else◌, IfOk};
+ghost use Rattle.partition.specs.Classes.{points_below, class_at, Same, merged};
+ghost use Rattle.partition.specs.Partitions.{IsPartitionValue};
+ghost use Rattle.partition.specs.Heads.{heads};
+
+use crate::{Point, PointList};
+use base::Memory;
+use std::alloc::Global;
+use std::marker::Model;
+
+/// The points in classes. Contracts see the class number of each point: the least point of its class.
+#[derive(Debug, Drop)]
+pub struct Partition {
+    classes: Vec<Point>,
+}
+
+impl Model for Partition {
+    ghost Value = { List ℕ };
+
+    ghost view = { λ p. p.classes.items };
+
+    ghost invariant = { λ p. IsPartitionValue p.classes.items };
+}
+
+impl Partition {
+    /// Each of the points 0 to n-1 in a class of its own.
+    pub fn singles(alloc: Global, n: u16) -> Result<Self, Memory>
+        ensures { IfOk result (λ p. p ≡ points_below n) }
+    {
+        let mut classes = Vec::new(alloc);
+        for i in 0..n {
+            classes.push(Point(i))?;
+        }
+        Ok(Partition { classes })
+    }
+
+    /// The same partition again.
+    pub fn copy(&self, alloc: Global) -> Result<Self, Memory>
+        ensures { IfOk result (λ p. p ≡ self.now) }
+    {
+        let classes = Vec::from_slice(alloc, self.classes.as_slice())?;
+        Ok(Partition { classes })
+    }
+
+    /// How many points it has, which its class numbers can name.
+    pub fn points(&self) -> u16
+        ensures points { result ≡ length self.now }
+        ensures valid { IsPartitionValue self.now }
+    {
+        self.classes.len() as u16
+    }
+
+    /// The least point of a point's class. Takes no memory.
+    pub fn class_of(&self, point: Point) -> Point
+        requires { point < length self.now }
+        ensures { result ≡ class_at self.now point }
+    {
+        self.classes[point.index()]
+    }
+
+    /// Whether two points are in one class. Takes no memory.
+    pub fn same(&self, a: Point, b: Point) -> bool
+        requires a { a < length self.now }
+        requires b { b < length self.now }
+        ensures { IsTrue result ↔ Same self.now a b }
+    {
+        self.class_of(a) == self.class_of(b)
+    }
+
+    /// Whether two partitions are one. Takes no memory.
+    pub fn equal(&self, other: &Partition) -> bool
+        requires { length other.now ≡ length self.now }
+        ensures { IsTrue result ↔ (other.now ≡ self.now) }
+    {
+        other.classes.as_slice() == self.classes.as_slice()
+    }
+
+    /// Makes the classes of two points one. Takes no memory.
+    pub fn merge(&mut self, a: Point, b: Point)
+        requires a { a < length self.old }
+        requires b { b < length self.old }
+        ensures { self.new ≡ merged self.old a b }
+    {
+        let one = self.class_of(a);
+        let other = self.class_of(b);
+        let (low, high) = ordered(one, other);
+        relabel(&mut self.classes, high, low);
+    }
+
+    /// The least point of each class, in ascending order.
+    pub fn heads(&self, alloc: Global) -> Result<PointList, Memory>
+        ensures heads { IfOk result (λ list. list ≡ heads self.now) }
+        ensures valid { IsPartitionValue self.now }
+    {
+        let mut list = PointList::new(alloc);
+        for (i, class) in self.classes.iter().enumerate() {
+            if class.index() == i {
+                list.push(*class)?;
+            }
+        }
+        Ok(list)
+    }
+}
+
+/// The lesser of two points, then the other.
+fn ordered(a: Point, b: Point) -> (Point, Point)
+    ensures low { result.0 ≡ min a b }
+    ensures high { result.1 ≡ max a b }
+{
+    if a < b { (a, b) } else { (b, a) }
+}
+
+/// Puts the one class number in the place of the other.
+fn relabel(classes: &mut [Point], from: Point, to: Point)
+    ensures { classes.new ≡ map (λ c. if c == from then to else c) classes.old }
+{
+    for class in classes.iter_mut() {
+        if *class == from {
+            *class = to;
+        }
+    }
+}
