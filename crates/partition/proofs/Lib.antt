@@ -13,3 +13,4 @@ pub mod HeadLemmas
 pub mod PickedLemmas
 pub mod SamePartition
 pub mod MergeLemmas
+pub mod NameLemmas

@@ -1,8 +1,8 @@
 -- A merge leaves a partition.
-use Rattle.std.proofs.Common.{◌≡◌, ℕ, ◌<◌, ◌^◌, List, length, map, cond, eqb, min, max, sym, ◌∙◌, ap, subst, arith, take, drop, ◌++◌}
+use Rattle.std.proofs.Common.{◌≡◌, ℕ, ◌<◌, List, length, map, cond, eqb, min, max, sym, ◌∙◌, ap, arith, take, drop, ◌++◌}
 use Rattle.std.proofs.Math.Seq.{take-append_seam}
 use Rattle.partition.specs.Classes.{class_at, merged}
-use Rattle.partition.specs.Partitions.{IsPartitionOfAll, IsPartitionValue}
+use Rattle.partition.specs.Partitions.{IsPartitionValue}
 use Rattle.partition.proofs.WalkLaws.{length-merged}
 use Rattle.partition.proofs.JoinedPartition.{merged-own}
 

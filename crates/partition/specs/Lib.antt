@@ -7,3 +7,5 @@ pub mod Rebuild
 pub mod Digits
 pub mod Picked
 pub mod Laws
+pub mod Names
+pub mod NameFields

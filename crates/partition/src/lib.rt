@@ -10,11 +10,13 @@ mod bits;
 mod difference;
 pub mod laws;
 mod lists;
+mod name;
 mod partition;
 mod point;
 
 pub use bits::digits;
 pub use difference::{Difference, Piece, Pieces, Short, Shorts};
 pub use lists::{NetLists, NetNumbers, PointLists};
+pub use name::Name;
 pub use partition::Partition;
 pub use point::{Point, PointList};

@@ -1,4 +1,4 @@
-use Rattle.std.proofs.Common.{◌≡◌, ℕ, List, sym, ◌∙◌, ap, subst, arith, take, drop, length, ◌++◌, map, cond, eqb}
+use Rattle.std.proofs.Common.{◌≡◌, sym, ◌∙◌, ap, subst, arith, take, drop, length, ◌++◌, map, cond, eqb}
 use Rattle.partition.specs.Classes.{merged}
 use Rattle.partition.specs.Partitions.{IsPartitionValue}
 use Rattle.partition.proofs.MergeLemmas.{merged-valid, merged-is, written-back}
