@@ -78,12 +78,18 @@ merge_all_own (j ∷ joins) m below h =
     (merged-own m j.0 j.1 here.0 here.1 h) in
     (i.0, i.1 ∙ l)
 
-pub joined_by-IsPartition : (joins : List (ℕ × ℕ)) (n : ℕ) → JoinsBelow joins n → IsPartition (points_below n) n (joined_by joins n)
-joined_by-IsPartition joins n below =
+-- each point has a class number that is no greater, in its own class; and there are n points
+pub joined_by-own : (joins : List (ℕ × ℕ)) (n : ℕ) → JoinsBelow joins n → IsPartitionOfAll (joined_by joins n) × (length (joined_by joins n) ≡ n)
+joined_by-own joins n below =
     let l = length-range_with_len 0 n in
     let start : IsPartitionOfAll (points_below n) = record {
       least = λ p hp. let e = point_class n p (omega arith) in omega arith;
       own = λ p hp. ap (class_at (points_below n)) (point_class n p (omega arith));
     } in
     let i = merge_all_own joins (points_below n) (λ a b k. let i = below a b k in (omega (arith, i.0), omega (arith, i.1))) start in
-    own-IsPartition (joined_by joins n) n (i.1 ∙ l) i.0
+    (i.0, i.1 ∙ l)
+
+pub joined_by-IsPartition : (joins : List (ℕ × ℕ)) (n : ℕ) → JoinsBelow joins n → IsPartition (points_below n) n (joined_by joins n)
+joined_by-IsPartition joins n below =
+    let i = joined_by-own joins n below in
+    own-IsPartition (joined_by joins n) n i.1 i.0

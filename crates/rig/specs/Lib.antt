@@ -1,0 +1,9 @@
+pub mod Joins
+pub mod RigState
+pub mod Trail
+pub mod Calls
+pub mod Seating
+pub mod Readings
+pub mod States
+pub mod Stops
+pub mod Laws

@@ -1,0 +1,80 @@
+//! A seated unit.
+
+ghost use Rattle.std.specs.Prelude.{◌≡◌, ◌≤◌, IfOk, MatchResult, Ok};
+ghost use Rattle.std.specs.Result.{result_err};
+ghost use Rattle.rig.specs.Calls.{AreGroups, Conducts};
+ghost use Rattle.rig.specs.Readings.{Reads, Teaches};
+ghost use Rattle.rig.specs.Seating.{Seats, IsSeating};
+
+use crate::{Rig, RigStop, SeatAnswer};
+use partition::Point;
+use std::marker::Model;
+
+/// A rig with a unit seated and no voltage. Contracts see the rig.
+pub struct Seated<R: Rig> {
+    rig: R,
+}
+
+/// Why a seating was refused. Each hands the rig back.
+pub enum SeatStop<R> {
+    /// There is no such unit.
+    Absent(R),
+    /// The rig failed.
+    Rig(R),
+    /// Memory ran out.
+    Memory(R),
+}
+
+impl<R: Rig> Model for Seated<R> {
+    ghost Value = { R };
+
+    ghost view = { λ s. s.rig };
+
+    ghost invariant = { λ s. IsSeating (R.state s.rig) };
+}
+
+impl<R: Rig> Seated<R> {
+    ghost use Rattle.rig.specs.Stops.{seat_stop_rig, seat_stop_answer};
+
+    /// Seats the unit with this serial and attempt.
+    pub fn take(mut rig: R, serial: &str, attempt: u8) -> Result<Self, SeatStop<R>>
+        requires { (R.state rig).volts ≡ 0 }
+        ensures { MatchResult result
+            (λ seat. Seats (R.state rig) (R.state seat) serial.now attempt (Ok SeatAnswer.Present))
+            (λ stop. Seats (R.state rig) (R.state (seat_stop_rig stop)) serial.now attempt (seat_stop_answer stop)) }
+    {
+        match rig.seat(serial, attempt) {
+            Ok(SeatAnswer::Present) => Ok(Seated { rig }),
+            Ok(SeatAnswer::Absent) => Err(SeatStop::Absent(rig)),
+            Err(RigStop::Failed) => Err(SeatStop::Rig(rig)),
+            Err(RigStop::Memory) => Err(SeatStop::Memory(rig)),
+        }
+    }
+
+    /// The number of points of the rig.
+    pub fn points(&self) -> u16
+        ensures points { result ≡ (R.state self.now).points }
+        ensures some { 1 ≤ result }
+    {
+        self.rig.points()
+    }
+
+    /// Whether some point of the one group is joined with some point of the other.
+    pub fn conducts(&mut self, a: &[Point], b: &[Point]) -> Result<bool, RigStop>
+        requires { AreGroups (R.state self.old).points a.now b.now }
+        ensures call { Conducts (R.state self.old) (R.state self.new) a.now b.now result }
+        ensures reads { Reads (R.state self.old) (R.state self.new) (result_err result) }
+        ensures teaches { IfOk result (Teaches (R.state self.old) (R.state self.new) a.now b.now) }
+    {
+        self.rig.conducts(a, b)
+    }
+
+    /// The rig, without voltage.
+    pub fn into_rig(self) -> R
+        ensures rig { result ≡ self }
+        ensures seating { IsSeating (R.state result) }
+    {
+        let Seated { rig } = self;
+        rig
+    }
+}
