@@ -1,7 +1,7 @@
 //! Units: what lies between the points of a harness.
 
-use base::{Memory, Text};
-use partition::Point;
+use base::Memory;
+use partition::{Name, Point};
 use std::alloc::Global;
 use std::marker::Model;
 
@@ -57,7 +57,7 @@ impl Rows {
 /// A unit: one attempt, from 1 to 9, of one serial.
 #[derive(Debug, Drop)]
 pub struct Unit {
-    pub serial: Text,
+    pub serial: Name,
     pub attempt: u8,
     pub rows: Rows,
 }
