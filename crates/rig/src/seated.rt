@@ -55,6 +55,7 @@ impl<R: Rig> Seated<R> {
     pub fn points(&self) -> u16
         ensures points { result ≡ (R.state self.now).points }
         ensures some { 1 ≤ result }
+        ensures seating { IsSeating (R.state self.now) }
     {
         self.rig.points()
     }

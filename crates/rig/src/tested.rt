@@ -4,6 +4,7 @@ ghost use Rattle.std.specs.Prelude.{◌≡◌, ◌≤◌, IfOk};
 ghost use Rattle.std.specs.Result.{result_err};
 ghost use Rattle.rig.specs.Calls.{AreGroups, Conducts};
 ghost use Rattle.rig.specs.Readings.{Reads, Teaches};
+ghost use Rattle.rig.specs.Seating.{IsSeating};
 ghost use Rattle.rig.specs.States.{IsOfRig};
 ghost use Rattle.rig.specs.Trail.{Forces, Determines};
 
@@ -84,7 +85,8 @@ impl<R: Rig> Continuous<R> {
     /// The readings so far have shown that nothing else is joined.
     pub fn proven(self) -> Proven<R>
         requires { Determines (R.state self.rig) self.partition }
-        ensures { result ≡ self }
+        ensures same { result ≡ self }
+        ensures seating { IsSeating (R.state result.rig) }
     {
         let Continuous { seat, programmed } = self;
         Proven {
