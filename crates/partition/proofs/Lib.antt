@@ -14,3 +14,6 @@ pub mod PickedLemmas
 pub mod SamePartition
 pub mod MergeLemmas
 pub mod NameLemmas
+pub mod ClaimLemmas
+pub mod AloneLemmas
+pub mod KeptLemmas

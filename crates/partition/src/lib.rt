@@ -11,6 +11,7 @@ mod difference;
 pub mod laws;
 mod lists;
 mod name;
+mod nets;
 mod partition;
 mod point;
 
@@ -18,5 +19,6 @@ pub use bits::digits;
 pub use difference::{Difference, Piece, Pieces, Short, Shorts};
 pub use lists::{NetLists, NetNumbers, PointLists};
 pub use name::Name;
+pub use nets::{Nets, NetsRefusal};
 pub use partition::Partition;
 pub use point::{Point, PointList};

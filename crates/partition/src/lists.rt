@@ -34,7 +34,7 @@ impl Model for NetLists {
 }
 
 impl NetLists {
-    ghost use Rattle.std.specs.Prelude.{◌≡◌, ◌++◌, ◌∷◌, ◌<◌, [], length, slice_index_or, OnOk, OnErr};
+    ghost use Rattle.std.specs.Prelude.{◌≡◌, ◌++◌, ◌∷◌, ◌<◌, [], length, slice_index_or, slice_set, replicate, IfOk, OnOk, OnErr};
 
     /// The empty list.
     pub fn new(alloc: Global) -> Self
@@ -57,6 +57,26 @@ impl NetLists {
         ensures { result.now ≡ slice_index_or self.now i [] }
     {
         self.lists[i].as_slice()
+    }
+
+    /// A list of so many nets without points.
+    pub(crate) fn empty_nets(alloc: Global, count: usize) -> Result<Self, Memory>
+        ensures { IfOk result (λ lists. lists ≡ replicate count []) }
+    {
+        let mut lists = Vec::new(alloc);
+        for _ in 0..count {
+            lists.push(PointList::new(alloc))?;
+        }
+        Ok(NetLists { lists })
+    }
+
+    /// Appends a point to the net with this number.
+    pub(crate) fn add(&mut self, i: usize, point: Point) -> Result<(), Memory>
+        requires { i < length self.old }
+        ensures ok { OnOk result (self.new ≡ slice_set self.old i (slice_index_or self.old i [] ++ point ∷ [])) }
+    {
+        let net = &mut self.lists[i];
+        net.push(point)
     }
 
     /// Appends a net.

@@ -1,0 +1,20 @@
+use Rattle.std.proofs.Common.{◌≡◌, length, arith, ap}
+use Rattle.std.proofs.lemmas.List.FromFn.{length-map-range_with_len}
+use Rattle.partition.specs.NetTable.{NetTable, net_at}
+use Rattle.partition.proofs.KeptLemmas.{number_read}
+use Rattle.partition.proofs.nets.Nets.net_of.Goals as goal
+
+pub index-requires-2 : goal.index-requires-2
+index-requires-2 c =
+    let points : c.self.inside.points ≡ c.args.self.now.points = ap (λ (t : NetTable). t.points) c.self.view_is in
+    let inside = c.requires in
+    let same = c.index.ensures.same in
+    let t : NetTable = record { points = c.self.inside.points; named = c.self.inside.named } in
+    omega (arith, ap length c.self.invariant.numbers, length-map-range_with_len (net_at t) 0 c.self.inside.points, c.self.inside.numbers.ok)
+
+pub returns : goal.returns
+returns c =
+    let points : c.self.inside.points ≡ c.args.self.now.points = ap (λ (t : NetTable). t.points) c.self.view_is in
+    let inside = c.requires in
+    number_read (record { points = c.self.inside.points; named = c.self.inside.named }) c.args.self.now c.self.inside.numbers.items c.index.result c.args.point c.index-2.result.now
+    c.self.view_is c.self.invariant.numbers c.index.ensures.same (omega arith) c.index-2.ensures
