@@ -1,0 +1,5 @@
+pub mod Images
+pub mod Marks
+pub mod MemDiskCalls
+pub mod Moments
+pub mod SinceCalls
