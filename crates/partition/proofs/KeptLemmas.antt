@@ -13,7 +13,7 @@ use Rattle.partition.specs.Difference.{numbered_nets}
 use Rattle.partition.specs.NetFaults.{net_faults, ascending_net, table_of}
 use Rattle.partition.specs.Claims.{nobody, owner_at, owned_by, lone_points, Claimed, ClaimedTo, NumberedAlone, OwnersBelow, IsKeptNets}
 use Rattle.partition.proofs.ClassLaws.{has-head, has-points_below, points_below-AllBelow}
-use Rattle.partition.proofs.Members.{In, In-filter, In-filter_cases, has-In, In-has, enumerate-In}
+use Rattle.partition.proofs.Members.{In, In-filter, In-filter_cases, has-In, In-has, enumerate-In, In-enumerate}
 use Rattle.partition.proofs.NetLaws.{In-index, net_facts}
 use Rattle.partition.proofs.ClaimLemmas.{none_before, net_not_empty, nets_few, nets_below}
 
@@ -359,3 +359,11 @@ lone_read t self lone i m view is size low inside =
     ∙ sym (get_or-map single (lone_points t) (i - m) 0 [] (omega (arith, ap length is)))
     ∙ sym (get_or-append_right t.named (map single (lone_points t)) m i [] (sym size) low)
     ∙ ap (λ (u : NetTable). get_or (all_nets u) i []) view
+
+pub net_at-below : (t : NetTable) → IsNetTable t → (p : ℕ) → p < t.points → net_at t p < net_count t
+net_at-below t ok p l =
+    let facts = net_facts t ok in
+    let at = In-enumerate 0 (net_at t p) (get_or (all_nets t) (net_at t p) []) (all_nets t) (facts.numbered_at p (has-points_below t.points p l)) in
+    let place = at.1 in
+    let inside = at.2 in
+    omega arith

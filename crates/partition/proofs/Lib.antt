@@ -17,3 +17,4 @@ pub mod NameLemmas
 pub mod ClaimLemmas
 pub mod AloneLemmas
 pub mod KeptLemmas
+pub mod NetClasses

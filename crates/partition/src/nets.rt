@@ -1,6 +1,7 @@
 //! The nets of a wirelist.
 
 ghost use Rattle.std.specs.Prelude.{◌≡◌, ℕ, ◌+◌, ◌<◌, ◌≤◌, ◌^◌, List, [], length, map, None, Some, slice_get, slice_index_or, IfOk, IfErr, OnOk, ◌⊎◌};
+ghost use Rattle.std.specs.List.Sorted.{IsStrictlyIncreasing};
 ghost use Rattle.partition.specs.Classes.{points_below};
 ghost use Rattle.partition.specs.Claims.{nobody, ClaimedTo, owned_by, OwnersBelow, NumberedAlone, IsKeptNets};
 ghost use Rattle.partition.specs.NetFaults.{net_faults, first_fault, ascending_net};
@@ -115,7 +116,9 @@ impl Nets {
     /// The points of a net, ascending. Takes no memory.
     pub fn net(&self, i: u32) -> &[Point]
         requires { i < net_count self.now }
-        ensures { result.now ≡ slice_index_or (all_nets self.now) i [] }
+        ensures net { result.now ≡ slice_index_or (all_nets self.now) i [] }
+        ensures some { 0 < length result.now }
+        ensures ascending { IsStrictlyIncreasing result.now }
     {
         let i = i as usize;
         if i < self.named.len() {
@@ -129,7 +132,8 @@ impl Nets {
     /// The number of a point's net. Takes no memory.
     pub fn net_of(&self, point: Point) -> u32
         requires { point < self.now.points }
-        ensures { result ≡ net_at self.now point }
+        ensures number { result ≡ net_at self.now point }
+        ensures net { result < net_count self.now }
     {
         self.numbers[point.index()]
     }

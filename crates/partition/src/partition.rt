@@ -4,8 +4,9 @@ ghost use Rattle.std.specs.Prelude.{◌≡◌, ℕ, ◌<◌, ◌^◌, ◌↔◌,
 ghost use Rattle.partition.specs.Classes.{points_below, class_at, Same, merged};
 ghost use Rattle.partition.specs.Partitions.{IsPartitionValue};
 ghost use Rattle.partition.specs.Heads.{heads};
+ghost use Rattle.partition.specs.NetTable.{programmed_of};
 
-use crate::{Point, PointList};
+use crate::{Nets, Point, PointList};
 use base::Memory;
 use std::alloc::Global;
 use std::marker::Model;
@@ -32,6 +33,18 @@ impl Partition {
         let mut classes = Vec::new(alloc);
         for i in 0..n {
             classes.push(Point(i))?;
+        }
+        Ok(Partition { classes })
+    }
+
+    /// The partition whose classes are the nets.
+    pub fn of_nets(alloc: Global, nets: &Nets) -> Result<Self, Memory>
+        ensures { IfOk result (λ p. p ≡ programmed_of nets.now) }
+    {
+        let mut classes = Vec::new(alloc);
+        for p in 0..nets.points() {
+            let net = nets.net(nets.net_of(Point(p)));
+            classes.push(net[0])?;
         }
         Ok(Partition { classes })
     }

@@ -1,7 +1,7 @@
-use Rattle.std.proofs.Common.{◌≡◌, length, arith, ap}
+use Rattle.std.proofs.Common.{◌≡◌, ◌<◌, ℕ, length, arith, ap, sym, subst}
 use Rattle.std.proofs.lemmas.List.FromFn.{length-map-range_with_len}
-use Rattle.partition.specs.NetTable.{NetTable, net_at}
-use Rattle.partition.proofs.KeptLemmas.{number_read}
+use Rattle.partition.specs.NetTable.{NetTable, IsNetTable, net_at, net_count}
+use Rattle.partition.proofs.KeptLemmas.{number_read, net_at-below}
 use Rattle.partition.proofs.nets.Nets.net_of.Goals as goal
 
 pub index-requires-2 : goal.index-requires-2
@@ -12,9 +12,15 @@ index-requires-2 c =
     let t : NetTable = record { points = c.self.inside.points; named = c.self.inside.named } in
     omega (arith, ap length c.self.invariant.numbers, length-map-range_with_len (net_at t) 0 c.self.inside.points, c.self.inside.numbers.ok)
 
-pub returns : goal.returns
-returns c =
+number : (c : goal.After-row_known-1) → c.index-2.result.now ≡ net_at c.args.self.now c.args.point
+number c =
     let points : c.self.inside.points ≡ c.args.self.now.points = ap (λ (t : NetTable). t.points) c.self.view_is in
     let inside = c.requires in
     number_read (record { points = c.self.inside.points; named = c.self.inside.named }) c.args.self.now c.self.inside.numbers.items c.index.result c.args.point c.index-2.result.now
     c.self.view_is c.self.invariant.numbers c.index.ensures.same (omega arith) c.index-2.ensures
+
+pub returns : goal.returns
+returns c = record {
+  number = number c;
+  net = subst (λ (i : ℕ). i < net_count c.args.self.now) (sym (number c)) (net_at-below c.args.self.now (subst IsNetTable c.self.view_is c.self.invariant.valid) c.args.point c.requires);
+}
