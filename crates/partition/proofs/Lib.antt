@@ -1,3 +1,4 @@
+pub mod FirstPoint
 pub mod Members
 pub mod ClassLaws
 pub mod WalkLaws

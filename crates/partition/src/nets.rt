@@ -100,7 +100,8 @@ impl Nets {
 
     /// How many nets are named.
     pub fn named(&self) -> u32
-        ensures { result ≡ length self.now.named }
+        ensures named { result ≡ length self.now.named }
+        ensures valid { IsNetTable self.now }
     {
         self.named.len() as u32
     }
