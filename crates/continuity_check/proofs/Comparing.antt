@@ -1,7 +1,7 @@
 -- Checks, one after the other.
-use Rattle.std.proofs.Common.{◌≡◌, ◌↔◌, ◌+◌, ◌++◌, ◌∷◌, [], ℕ, Bool, true, false, List, Option, Some, None, map, length, IsTrue, refl, sym, ◌∙◌, ap, subst, arith, append_assoc, append-nil, add_assoc, add-zero, not, cond, Ok}
-use Rattle.std.specs.Prelude.{All, IfSome, flat_map, option_map, count_by, Contains}
-use Rattle.std.proofs.lemmas.List.Elements.{All-nil, All-cons, All-append, All-contains}
+use Rattle.std.proofs.Common.{◌≡◌, ◌↔◌, ◌+◌, ◌++◌, ◌∷◌, [], ℕ, Bool, true, false, List, Option, Some, None, map, IsTrue, refl, sym, ◌∙◌, ap, subst, arith, append_assoc, append-nil, add_assoc, add-zero, not, cond, Ok}
+use Rattle.std.specs.Prelude.{All, IfSome, flat_map, option_map}
+use Rattle.std.proofs.lemmas.List.Elements.{All-nil, All-cons, All-append}
 use Rattle.std.proofs.lemmas.List.{map-append}
 use Rattle.std.proofs.lemmas.List.Sums.{sum_by-append}
 use Rattle.std.proofs.lemmas.Grind.{flat_map-append}
@@ -10,7 +10,7 @@ use Rattle.rig.specs.declared.unit.Row.{Row}
 use Rattle.rig.specs.Joins.{Joined}
 use Rattle.rig.specs.RigState.{RigState}
 use Rattle.rig.specs.declared.rig.RigStop.{RigStop}
-use Rattle.rig.specs.Calls.{AreGroups, AreJoined, Conducts, IsGroup, recorded}
+use Rattle.rig.specs.Calls.{AreJoined, Conducts}
 use Rattle.rig.specs.Readings.{Reads}
 use Rattle.rig.proofs.Groups.{Contains-one}
 use Rattle.continuity_check.specs.Compared.{Compared, Trial, reading_of, lines_of, open_count, open_line}

@@ -1,12 +1,12 @@
 -- The named nets of a table, one after the other.
-use Rattle.std.proofs.Common.{◌≡◌, ◌+◌, ◌<◌, ◌≤◌, ◌++◌, ◌∷◌, [], ℕ, List, take, length, get_or, refl, sym, ◌∙◌, ap, subst, arith, length-append, min}
-use Rattle.std.specs.Prelude.{All, Contains, zip, flat_map}
+use Rattle.std.proofs.Common.{◌≡◌, ◌+◌, ◌<◌, ◌≤◌, ◌++◌, ◌∷◌, [], ℕ, List, take, length, get_or, sym, ◌∙◌, ap, subst, arith}
+use Rattle.std.specs.Prelude.{zip, flat_map}
 use Rattle.std.proofs.lemmas.List.{take_more, take_all, get_or_append_left}
 use Rattle.std.proofs.lemmas.Slice.Zip.{get_or-zip, length-zip}
 use Rattle.std.proofs.lemmas.Grind.{flat_map-append}
 use Rattle.std.proofs.lemmas.List.{append-nil}
 use Rattle.partition.specs.Classes.{points_below}
-use Rattle.partition.specs.NetTable.{NetTable, IsNetTable, all_nets, judged_points}
+use Rattle.partition.specs.NetTable.{NetTable, IsNetTable, all_nets}
 use Rattle.partition.proofs.ClassLaws.{points_below-AllBelow}
 use Rattle.partition.proofs.Members.{In-has}
 use Rattle.partition.proofs.NetLaws.{Contains-In}

@@ -3,7 +3,7 @@
 --     judged classes c          how it comes out where the points have these classes
 --     reading_of trial          the reading that it is
 --     checked_text trials       what is printed
-use Rattle.std.specs.Prelude.{ℕ, Bool, List, [], ◌∷◌, ◌++◌, map, flat_map, zip, drop, count_by, not, ◌==◌, codes, decimal, if◌then◌else◌}
+use Rattle.std.specs.Prelude.{ℕ, Bool, List, [], ◌∷◌, ◌++◌, map, flat_map, drop, count_by, not, ◌==◌, codes, decimal, if◌then◌else◌}
 use Rattle.partition.specs.Classes.{class_at}
 use Rattle.partition.specs.NetTable.{head_of}
 use Rattle.rig.specs.declared.event.Event.{Event}

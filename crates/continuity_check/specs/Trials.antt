@@ -1,5 +1,5 @@
 -- What a check of continuity has read and written so far.
-use Rattle.std.specs.Prelude.{◌≡◌, ◌↔◌, ◌+◌, ◌++◌, [], ℕ, List, Option, All, IsTrue, IfSome, map, flat_map, option_map}
+use Rattle.std.specs.Prelude.{◌≡◌, ◌↔◌, ◌+◌, ◌++◌, [], ℕ, List, All, IsTrue, IfSome, map, flat_map, option_map}
 use Rattle.rig.specs.declared.unit.Row.{Row}
 use Rattle.rig.specs.Joins.{Joined}
 use Rattle.rig.specs.RigState.{RigState}

@@ -1,4 +1,4 @@
-use Rattle.std.proofs.Common.{[], ◌∷◌, List, ℕ, sym, ◌∙◌, ap, subst}
+use Rattle.std.proofs.Common.{[], ◌∷◌, sym, ◌∙◌, ap, subst}
 use Rattle.std.specs.Prelude.{All, OnOk}
 use Rattle.rig.specs.Calls.{AreGroups}
 use Rattle.continuity_check.specs.Compared.{compared_with}
