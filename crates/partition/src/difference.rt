@@ -26,6 +26,16 @@ impl Model for Pieces {
     ghost view = { λ l. l.pieces.items };
 }
 
+impl Pieces {
+    ghost use Rattle.std.specs.Prelude.{◌≡◌, length};
+
+    pub fn len(&self) -> usize
+        ensures { result ≡ length self.now }
+    {
+        self.pieces.len()
+    }
+}
+
 /// Nets with one home. `class` is the class's anchor.
 #[derive(Debug, Drop)]
 pub struct Short {
@@ -46,6 +56,16 @@ impl Model for Shorts {
     ghost Value = { List Short };
 
     ghost view = { λ l. l.shorts.items };
+}
+
+impl Shorts {
+    ghost use Rattle.std.specs.Prelude.{◌≡◌, length};
+
+    pub fn len(&self) -> usize
+        ensures { result ≡ length self.now }
+    {
+        self.shorts.len()
+    }
 }
 
 /// The opens, the shorts and the miswires.

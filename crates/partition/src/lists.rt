@@ -1,5 +1,7 @@
 //! Lists of groups of points, and of the numbers of nets.
 
+ghost use Rattle.std.specs.Prelude.{◌≡◌, ◌↔◌, IsTrue};
+
 use crate::{Point, PointList};
 use base::Memory;
 use std::alloc::Global;
@@ -34,7 +36,7 @@ impl Model for NetLists {
 }
 
 impl NetLists {
-    ghost use Rattle.std.specs.Prelude.{◌≡◌, ◌++◌, ◌∷◌, ◌<◌, [], length, slice_index_or, slice_set, replicate, IfOk, OnOk, OnErr};
+    ghost use Rattle.std.specs.Prelude.{◌≡◌, ◌++◌, ◌∷◌, ◌<◌, ◌↔◌, [], length, slice_index_or, slice_set, replicate, IsTrue, IfOk, OnOk, OnErr};
 
     /// The empty list.
     pub fn new(alloc: Global) -> Self
@@ -57,6 +59,32 @@ impl NetLists {
         ensures { result.now ≡ slice_index_or self.now i [] }
     {
         self.lists[i].as_slice()
+    }
+
+    /// The same lists again.
+    pub fn copy(&self, alloc: Global) -> Result<Self, Memory>
+        ensures { IfOk result (λ lists. lists ≡ self.now) }
+    {
+        let mut lists = Vec::new(alloc);
+        for net in &self.lists {
+            lists.push(PointList::from_slice(alloc, net.as_slice())?)?;
+        }
+        Ok(NetLists { lists })
+    }
+
+    /// Whether two lists have the same nets in the same order, each with its points as listed. Takes no memory.
+    pub fn equal(&self, other: &NetLists) -> bool
+        ensures { IsTrue result ↔ (other.now ≡ self.now) }
+    {
+        if other.len() != self.len() {
+            return false;
+        }
+        for i in 0..self.len() {
+            if !same_points(other.net(i), self.net(i)) {
+                return false;
+            }
+        }
+        true
     }
 
     /// A list of so many nets without points.
@@ -87,6 +115,13 @@ impl NetLists {
         self.lists.push(net)?;
         Ok(())
     }
+}
+
+/// Whether two slices have the same points.
+fn same_points(a: &[Point], b: &[Point]) -> bool
+    ensures { IsTrue result ↔ (a.now ≡ b.now) }
+{
+    a == b
 }
 
 /// Numbers of nets.

@@ -1,6 +1,6 @@
 //! The nets of a wirelist.
 
-ghost use Rattle.std.specs.Prelude.{◌≡◌, ℕ, ◌+◌, ◌<◌, ◌≤◌, ◌^◌, List, [], length, map, None, Some, slice_get, slice_index_or, IfOk, IfErr, OnOk, ◌⊎◌};
+ghost use Rattle.std.specs.Prelude.{◌≡◌, ℕ, ◌+◌, ◌<◌, ◌≤◌, ◌^◌, List, [], length, map, None, Some, slice_get, slice_index_or, IfOk, IfErr, OnOk, ◌⊎◌, ◌↔◌, IsTrue};
 ghost use Rattle.std.specs.List.Sorted.{IsStrictlyIncreasing};
 ghost use Rattle.partition.specs.Classes.{points_below};
 ghost use Rattle.partition.specs.Claims.{nobody, ClaimedTo, owned_by, OwnersBelow, NumberedAlone, IsKeptNets};
@@ -88,6 +88,28 @@ impl Nets {
             numbers,
             alone,
         })
+    }
+
+    /// The same nets again.
+    pub fn copy(&self, alloc: Global) -> Result<Self, Memory>
+        ensures { IfOk result (λ nets. nets ≡ self.now) }
+    {
+        let named = self.named.copy(alloc)?;
+        let numbers = Vec::from_slice(alloc, self.numbers.as_slice())?;
+        let alone = PointList::from_slice(alloc, self.alone.as_slice())?;
+        Ok(Nets {
+            points: self.points,
+            named,
+            numbers,
+            alone,
+        })
+    }
+
+    /// Whether two tables have as many points and the same named nets in the same order. Takes no memory.
+    pub fn equal(&self, other: &Nets) -> bool
+        ensures { IsTrue result ↔ (other.now ≡ self.now) }
+    {
+        other.points == self.points && self.named.equal(&other.named)
     }
 
     /// How many points the matrix has.
