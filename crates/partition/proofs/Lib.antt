@@ -19,3 +19,4 @@ pub mod ClaimLemmas
 pub mod AloneLemmas
 pub mod KeptLemmas
 pub mod NetClasses
+pub mod LabelClasses

@@ -1,7 +1,7 @@
 //! Partitions of the points.
 
-ghost use Rattle.std.specs.Prelude.{◌≡◌, ℕ, ◌<◌, ◌^◌, ◌↔◌, ◌==◌, IsTrue, List, length, map, min, max, if◌then◌else◌, IfOk};
-ghost use Rattle.partition.specs.Classes.{points_below, class_at, Same, merged};
+ghost use Rattle.std.specs.Prelude.{◌≡◌, ℕ, ◌<◌, ◌^◌, ◌↔◌, ◌==◌, IsTrue, List, length, map, min, max, if◌then◌else◌, IfOk, All, vec_len, slice_index, slice_set};
+ghost use Rattle.partition.specs.Classes.{points_below, class_at, classes_by, Same, merged};
 ghost use Rattle.partition.specs.Partitions.{IsPartitionValue};
 ghost use Rattle.partition.specs.Heads.{heads};
 ghost use Rattle.partition.specs.NetTable.{programmed_of};
@@ -10,6 +10,9 @@ use crate::{Nets, Point, PointList};
 use base::Memory;
 use std::alloc::Global;
 use std::marker::Model;
+
+/// The number of no point.
+const NO_POINT: u16 = u16::MAX;
 
 /// The points in classes. Contracts see the class number of each point: the least point of its class.
 #[derive(Debug, Drop)]
@@ -45,6 +48,21 @@ impl Partition {
         for p in 0..nets.points() {
             let net = nets.net(nets.net_of(Point(p)));
             classes.push(net[0])?;
+        }
+        Ok(Partition { classes })
+    }
+
+    /// The partition in which two points are together where their labels are equal. A label is the number of a point.
+    pub fn by_labels(alloc: Global, labels: &[Point]) -> Result<Self, Memory>
+        requires few { length labels.now < 2 ^ 16 }
+        requires below { All (λ label. label < length labels.now) labels.now }
+        ensures { IfOk result (λ p. p ≡ classes_by (points_below (length labels.now)) (length labels.now) (class_at labels.now)) }
+    {
+        let mut firsts = vec![in alloc; NO_POINT; labels.len()]?;
+        let mut classes = Vec::new(alloc);
+        for (p, label) in labels.iter().enumerate() {
+            let first = keep_first(&mut firsts, label.index(), p as u16);
+            classes.push(Point(first))?;
         }
         Ok(Partition { classes })
     }
@@ -115,6 +133,18 @@ impl Partition {
         }
         Ok(list)
     }
+}
+
+/// The number that was kept there first.
+fn keep_first(firsts: &mut Vec<u16>, at: usize, number: u16) -> u16
+    requires { at < vec_len firsts.old }
+    ensures first { result ≡ (if slice_index firsts.old.items at == NO_POINT then number else slice_index firsts.old.items at) }
+    ensures kept { firsts.new.items ≡ slice_set firsts.old.items at result }
+{
+    let kept = firsts[at];
+    let first = if kept == NO_POINT { number } else { kept };
+    firsts[at] = first;
+    first
 }
 
 /// The lesser of two points, then the other.
