@@ -1,0 +1,9 @@
+pub mod RowLemmas
+pub mod PlaceLemmas
+pub mod Reading
+pub mod Numbers
+pub mod Joining
+pub mod Collecting
+pub mod Searching
+pub mod SimLemmas
+pub mod Starting

@@ -1,0 +1,158 @@
+-- One more row.
+use Rattle.std.proofs.Common.{◌≡◌, ℕ, ◌+◌, ◌<◌, ◌≤◌, Bool, true, false, cond, List, [], ◌∷◌, ◌++◌, String, length, refl, sym, ◌∙◌, ap, subst, inl, inr, arith}
+use Rattle.std.specs.Prelude.{IsTrue, IsFalse, ◌||◌, ◌&&◌, not, bytes_eq, ◌==◌}
+use Rattle.std.specs.List.{list_any}
+use Rattle.std.specs.BTreeSet.{BTreeSet, contains_text}
+use Rattle.std.specs.declared.alloc.Global.{Global}
+use mathlib.Core.List.{append_assoc}
+use Rattle.std.proofs.lemmas.Bool.{ne_eqb, eq-eqb}
+use Rattle.std.proofs.lemmas.Bool.Decides.{eqb_tells}
+use Rattle.std.proofs.lemmas.List.{append-nil}
+use Rattle.rig_sim.specs.declared.row.HarnessRow.{HarnessRow}
+use Rattle.rig_sim.specs.declared.row.HarnessRow.TheVariants.{Points, Fault, NewUnit, NewWire, End}
+use Rattle.rig_sim.specs.Places.{is_first, is_unit_row, has_unit, is_end, has_end, is_open, points_of_row, points_in, is_unit_of, Stands, StandBelow}
+use Rattle.rig_sim.specs.Above.{unit_key, IsSummary}
+
+-- the rows stand well with one more that stands well below them
+pub StandBelow-push : (above rows : List HarnessRow) (row : HarnessRow) → StandBelow above rows → Stands (above ++ rows) row → StandBelow above (rows ++ (row ∷ []))
+StandBelow-push above [] row rest here = let P : List HarnessRow → Type 0 = λ rows. Stands rows row in (subst P (append-nil above) here, tt)
+StandBelow-push above (r ∷ rows) row rest here =
+    (rest.0, StandBelow-push (above ++ (r ∷ [])) rows row rest.1 (rw (append_assoc above (r ∷ []) rows) here))
+
+-- a test of one more row
+pub list_any-push : (p : HarnessRow → Bool) (rows : List HarnessRow) (row : HarnessRow) → list_any p (rows ++ (row ∷ [])) ≡ (list_any p rows || p row)
+list_any-push p [] row = go (p row)
+  where
+    go : (b : Bool) → (b || false) ≡ (false || b)
+    go true = refl
+    go false = refl
+list_any-push p (r ∷ rows) row = go (p r) (list_any-push p rows row)
+  where
+    go : (b : Bool) → list_any p (rows ++ (row ∷ [])) ≡ (list_any p rows || p row) → (b || list_any p (rows ++ (row ∷ []))) ≡ ((b || list_any p rows) || p row)
+    go true e = refl
+    go false e = e
+
+-- below a first row the number of points stays
+pub points_in-push : (rows : List HarnessRow) (row : HarnessRow) → is_first rows ≡ false → points_in (rows ++ (row ∷ [])) ≡ points_in rows
+points_in-push [] row some = cc
+points_in-push (r ∷ rows) row some = refl
+
+pub or-false : (b : Bool) → (b || false) ≡ b
+or-false true = refl
+or-false false = refl
+
+pub or-true : (b : Bool) → (b || true) ≡ true
+or-true true = refl
+or-true false = refl
+
+pub and_left : (a b : Bool) → (a && b) ≡ true → a ≡ true
+and_left true b h = refl
+and_left false b h = cc
+
+pub not_true : (a : Bool) → not a ≡ true → a ≡ false
+not_true true h = cc
+not_true false h = refl
+
+-- an open list has a first row
+pub open_some : (rows : List HarnessRow) → is_open rows ≡ true → is_first rows ≡ false
+open_some rows h = not_true (is_first rows) (and_left (not (is_first rows)) (not (has_end rows)) h)
+
+and_assoc : (a b c : Bool) → (a && (b && c)) ≡ ((a && b) && c)
+and_assoc true b c = refl
+and_assoc false b c = refl
+
+and-false : (a : Bool) → (a && false) ≡ false
+and-false true = refl
+and-false false = refl
+
+empty_first : (s : List ℕ) (x : ℕ) → bytes_eq [] (s ++ (x ∷ [])) ≡ false
+empty_first [] x = refl
+empty_first (y ∷ s) x = refl
+
+empty_last : (s : List ℕ) (x : ℕ) → bytes_eq (s ++ (x ∷ [])) [] ≡ false
+empty_last [] x = refl
+empty_last (y ∷ s) x = refl
+
+shifted_eq : (b a : ℕ) → ((48 + b == 48 + a) && true) ≡ (b == a)
+shifted_eq b a =
+    elim (eqb_tells b a) [
+      | inl e ↦ rw e.1 (rw (eq-eqb (48 + a) (48 + a) refl) (sym (eq-eqb a a refl)))
+      | inr e ↦ rw (ne_eqb (48 + b) (48 + a) (λ h. e.1 (let k = h in omega arith))) (sym e.0)
+    ]
+
+-- two keys are one where serials and attempts are
+pub key_eq : (t s : List ℕ) (b a : ℕ) → bytes_eq (unit_key t b) (unit_key s a) ≡ (bytes_eq t s && (b == a))
+key_eq [] [] b a = shifted_eq b a
+key_eq [] (y ∷ s) b a = ap (λ r. (48 + b == y) && r) (empty_first s (48 + a)) ∙ and-false (48 + b == y)
+key_eq (x ∷ t) [] b a = ap (λ r. (x == 48 + a) && r) (empty_last t (48 + b)) ∙ and-false (x == 48 + a)
+key_eq (x ∷ t) (y ∷ s) b a = ap (λ r. (x == y) && r) (key_eq t s b a) ∙ and_assoc (x == y) (bytes_eq t s) (b == a)
+
+-- one more row, and what is kept of it
+pub summary-push : (rows items : List HarnessRow) (row : HarnessRow) (points points' : ℕ) (unit unit' end end' : Bool) (units units' : BTreeSet (String Global)) →
+    IsSummary rows points unit end units → Stands rows row → items ≡ rows ++ (row ∷ []) →
+    points' ≡ points_in (rows ++ (row ∷ [])) → unit' ≡ (unit || is_unit_row row) → end' ≡ (end || is_end row) →
+    ((serial : List ℕ) (attempt : ℕ) → contains_text units' (unit_key serial attempt) ≡ (contains_text units (unit_key serial attempt) || is_unit_of serial attempt row)) →
+    IsSummary items points' unit' end' units'
+summary-push rows items row points points' unit unit' end end' units units' kept here items_are points_are unit_is end_is units_are = rw items_are (record {
+  stand = StandBelow-push [] rows row kept.stand here;
+  points_are = points_are;
+  unit_is = unit_is ∙ ap (λ (b : Bool). b || is_unit_row row) kept.unit_is ∙ sym (list_any-push is_unit_row rows row);
+  end_is = end_is ∙ ap (λ (b : Bool). b || is_end row) kept.end_is ∙ sym (list_any-push is_end rows row);
+  units_are = λ serial attempt.
+      units_are serial attempt ∙ ap (λ (b : Bool). b || is_unit_of serial attempt row) (kept.units_are serial attempt) ∙ sym (list_any-push (is_unit_of serial attempt) rows row);
+})
+
+-- a row below the first that is no unit and not the last changes nothing else
+pub summary-plain : (rows items : List HarnessRow) (row : HarnessRow) (points : ℕ) (unit end : Bool) (units : BTreeSet (String Global)) →
+    IsSummary rows points unit end units → Stands rows row → items ≡ rows ++ (row ∷ []) → is_first rows ≡ false →
+    is_unit_row row ≡ false → is_end row ≡ false → ((serial : List ℕ) (attempt : ℕ) → is_unit_of serial attempt row ≡ false) →
+    IsSummary items points unit end units
+summary-plain rows items row points unit end units kept here items_are below no_unit no_end not_unit =
+    summary-push rows items row points points unit unit end end units units kept here items_are
+    (kept.points_are ∙ sym (points_in-push rows row below))
+    (rw no_unit (sym (or-false unit))) (rw no_end (sym (or-false end)))
+    (λ serial attempt. rw (not_unit serial attempt) (sym (or-false (contains_text units (unit_key serial attempt)))))
+
+pub open_fault : (rows : List HarnessRow) (k : ℕ) → Stands rows (Fault k) → is_first rows ≡ false
+open_fault rows k here = open_some rows (and_left (is_open rows) (not (has_unit rows)) here.in_place)
+
+pub open_wire : (rows : List HarnessRow) (a b : ℕ) → Stands rows (NewWire a b) → is_first rows ≡ false
+open_wire rows a b here = open_some rows (and_left (is_open rows) (has_unit rows) here.in_place)
+
+-- the first row
+pub summary-first : (rows items : List HarnessRow) (n points : ℕ) (unit end : Bool) (units : BTreeSet (String Global)) →
+    IsSummary rows points unit end units → Stands rows (Points n) → items ≡ rows ++ (Points n ∷ []) →
+    IsSummary items n unit end units
+summary-first [] items n points unit end units kept here items_are =
+    summary-push [] items (Points n) points n unit unit end end units units kept here items_are refl (sym (or-false unit)) (sym (or-false end))
+    (λ serial attempt. sym (or-false (contains_text units (unit_key serial attempt))))
+summary-first (r ∷ rows) items n points unit end units kept here items_are = let h = here.in_place in cc
+
+-- the last row
+pub summary-end : (rows items : List HarnessRow) (points : ℕ) (unit end : Bool) (units : BTreeSet (String Global)) →
+    IsSummary rows points unit end units → Stands rows End → items ≡ rows ++ (End ∷ []) →
+    IsSummary items points unit true units
+summary-end rows items points unit end units kept here items_are =
+    summary-push rows items End points points unit unit end true units units kept here items_are
+    (kept.points_are ∙ sym (points_in-push rows End (open_some rows here.in_place)))
+    (sym (or-false unit)) (sym (or-true end))
+    (λ serial attempt. sym (or-false (contains_text units (unit_key serial attempt))))
+
+cond_or : (c b : Bool) → cond c true b ≡ (b || c)
+cond_or true b = sym (or-true b)
+cond_or false b = sym (or-false b)
+
+-- a unit
+pub summary-unit : (rows items : List HarnessRow) (t : List ℕ) (b points : ℕ) (unit end : Bool) (units units' : BTreeSet (String Global)) (key : List ℕ) →
+    IsSummary rows points unit end units → Stands rows (NewUnit t b) → items ≡ rows ++ (NewUnit t b ∷ []) → key ≡ unit_key t b →
+    ((cs : List ℕ) → contains_text units' cs ≡ cond (bytes_eq key cs) true (contains_text units cs)) →
+    IsSummary items points true end units'
+summary-unit rows items t b points unit end units units' key kept here items_are key_is updates =
+    summary-push rows items (NewUnit t b) points points unit true end end units units' kept here items_are
+    (kept.points_are ∙ sym (points_in-push rows (NewUnit t b) (open_some rows here.in_place)))
+    (sym (or-true unit)) (sym (or-false end))
+    (λ serial attempt.
+    updates (unit_key serial attempt)
+    ∙ cond_or (bytes_eq key (unit_key serial attempt)) (contains_text units (unit_key serial attempt))
+    ∙ ap (λ (k : List ℕ). contains_text units (unit_key serial attempt) || bytes_eq k (unit_key serial attempt)) key_is
+    ∙ ap (λ (c : Bool). contains_text units (unit_key serial attempt) || c) (key_eq t serial b attempt))

@@ -1,0 +1,9 @@
+pub mod Rows
+pub mod Places
+pub mod Harness
+pub mod Units
+pub mod Refusals
+pub mod Above
+pub mod FaultCalls
+pub mod SimRig
+pub mod SimView
