@@ -10,11 +10,11 @@ use Rattle.rig.specs.declared.unit.Row.{Row}
 use Rattle.rig.specs.Joins.{Joined}
 use Rattle.rig.specs.RigState.{RigState}
 use Rattle.rig.specs.declared.rig.RigStop.{RigStop}
-use Rattle.rig.specs.Calls.{AreJoined, Conducts}
+use Rattle.rig.specs.Calls.{AreGroups, AreJoined, Conducts}
 use Rattle.rig.specs.Readings.{Reads}
 use Rattle.rig.proofs.Groups.{Contains-one}
 use Rattle.continuity_check.specs.Compared.{Compared, Trial, reading_of, lines_of, open_count, open_line}
-use Rattle.continuity_check.specs.Trials.{SheetView, IsRight, Compares}
+use Rattle.continuity_check.specs.Trials.{SheetView, IsBelow, IsRight, Compares}
 
 trail-none : (trail : Option (List Event)) → trail ≡ option_map (λ events. events ++ []) trail
 trail-none None = refl
@@ -37,6 +37,7 @@ Compares-none s sheet = record {
   trials = [];
   of_these = refl;
   trail = trail-none s.trail;
+  below = All-nil (IsBelow s.points);
   right = λ honest. all-none s.honest s.truth honest;
   lines = sym (append-nil sheet.lines);
   opens = sym (add-zero sheet.opens);
@@ -47,6 +48,7 @@ Compares-then {s} {t} {u} {stop} {a} {b} {c} {first} {second} reads one two = re
   trials = one.trials ++ two.trials;
   of_these = map-append (λ (t : Trial). t.compared) one.trials two.trials ∙ ap (λ (l : List Compared). l ++ map (λ (t : Trial). t.compared) two.trials) one.of_these ∙ ap (λ (l : List Compared). first ++ l) two.of_these;
   trail = two.trail ∙ ap (option_map (λ events. events ++ map reading_of two.trials)) one.trail ∙ trail-then s.trail (map reading_of one.trials) (map reading_of two.trials) ∙ ap (λ (more : List Event). option_map (λ events. events ++ more) s.trail) (sym (map-append reading_of one.trials two.trials));
+  below = All-append (IsBelow s.points) one.trials two.trials one.below (subst (λ (n : ℕ). All (IsBelow n) two.trials) (ap (λ (s : RigState). s.points) reads.frame) two.below);
   right = λ honest. all-then s.truth one.trials two.trials (one.right honest)
       (subst (λ (o : Option (List Row)). IfSome o (λ rows. All (IsRight rows) two.trials)) (ap (λ (s : RigState). s.truth) reads.frame) (two.right (subst IsTrue (sym (ap (λ (s : RigState). s.honest) reads.frame)) honest)));
   lines = two.lines ∙ ap (λ (l : List ℕ). l ++ flat_map lines_of two.trials) one.lines ∙ append_assoc a.lines (flat_map lines_of one.trials) (flat_map lines_of two.trials) ∙ ap (λ (l : List ℕ). a.lines ++ l) (sym (flat_map-append lines_of one.trials two.trials));
@@ -70,22 +72,27 @@ right-one None c met is = tt
 right-one (Some rows) c met is =
     All-cons (IsRight rows) _ [] (λ m. joined-one rows c.head c.point (is.0 m), λ walk. is.1 (one-joined rows c.head c.point walk)) (All-nil (IsRight rows))
 
-pub Compares-met : {old new : RigState} {sheet : SheetView} (c : Compared) → Conducts old new (c.head ∷ []) (c.point ∷ []) (Ok true) → Compares old new sheet sheet (c ∷ [])
-Compares-met {old} {new} {sheet} c call = record {
+below-one : (n : ℕ) (c : Compared) (met : Bool) → AreGroups n (c.head ∷ []) (c.point ∷ []) → All (IsBelow n) (record { compared = c; met = met } ∷ [])
+below-one n c met groups = All-cons (IsBelow n) _ [] (groups.left.in_range 0 c.head (omega arith), groups.right.in_range 0 c.point (omega arith)) (All-nil (IsBelow n))
+
+pub Compares-met : {old new : RigState} {sheet : SheetView} (c : Compared) → AreGroups old.points (c.head ∷ []) (c.point ∷ []) → Conducts old new (c.head ∷ []) (c.point ∷ []) (Ok true) → Compares old new sheet sheet (c ∷ [])
+Compares-met {old} {new} {sheet} c groups call = record {
   trials = record { compared = c; met = true } ∷ [];
   of_these = refl;
   trail = ap (λ (s : RigState). s.trail) call.ok;
+  below = below-one old.points c _ groups;
   right = λ honest. right-one old.truth c true (call.truth honest);
   lines = sym (append-nil sheet.lines);
   opens = sym (add-zero sheet.opens);
 }
 
-pub Compares-open : {old new : RigState} {before after : SheetView} (c : Compared) → Conducts old new (c.head ∷ []) (c.point ∷ []) (Ok false)
+pub Compares-open : {old new : RigState} {before after : SheetView} (c : Compared) → AreGroups old.points (c.head ∷ []) (c.point ∷ []) → Conducts old new (c.head ∷ []) (c.point ∷ []) (Ok false)
     → after.lines ≡ before.lines ++ open_line c → after.opens ≡ before.opens + 1 → Compares old new before after (c ∷ [])
-Compares-open {old} {new} {before} {after} c call lines opens = record {
+Compares-open {old} {new} {before} {after} c groups call lines opens = record {
   trials = record { compared = c; met = false } ∷ [];
   of_these = refl;
   trail = ap (λ (s : RigState). s.trail) call.ok;
+  below = below-one old.points c _ groups;
   right = λ honest. right-one old.truth c false (call.truth honest);
   lines = lines ∙ ap (λ (l : List ℕ). before.lines ++ l) (sym (append-nil (open_line c)));
   opens = opens;

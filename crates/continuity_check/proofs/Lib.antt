@@ -1,3 +1,4 @@
 pub mod Comparing
 pub mod Checking
 pub mod NamedNets
+pub mod RightTrials

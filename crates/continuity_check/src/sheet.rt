@@ -1,6 +1,6 @@
 //! What a check has to print.
 
-ghost use Rattle.std.specs.Prelude.{◌≡◌, ◌+◌, ◌-◌, ◌<◌, ◌^◌, ◌++◌, [], ◌∷◌, codes, decimal, IfOk, OnOk};
+ghost use Rattle.std.specs.Prelude.{◌≡◌, ◌+◌, ◌-◌, ◌<◌, ◌^◌, ◌++◌, [], ◌∷◌, codes, decimal, IfOk, OnOk, OnErr};
 ghost use Rattle.continuity_check.specs.Compared.{open_line, result_line};
 
 use base::{Memory, Text};
@@ -45,6 +45,7 @@ impl Sheet {
         requires { self.old.opens < 2 ^ 64 - 1 }
         ensures lines { OnOk result (self.new.lines ≡ self.old.lines ++ open_line (record { name = name.now; head = head; point = point })) }
         ensures opens { OnOk result (self.new.opens ≡ self.old.opens + 1) }
+        ensures err { OnErr result (self.new ≡ self.old) }
     {
         let line = format!(in alloc; "open {} {}\n", name.text(), point.0)?;
         self.lines.push_str(line.as_str())?;
