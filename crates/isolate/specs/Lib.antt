@@ -1,0 +1,4 @@
+pub mod Coded
+pub mod Merges
+pub mod Opens
+pub mod Stops
