@@ -149,13 +149,13 @@ labelled_all labels firsts classes p s all =
     same_lists classes (classes_by (points_below (length labels)) (length labels) (class_at labels))
     (s.count ∙ all ∙ sym (length-classes_by (points_below (length labels)) (length labels) (class_at labels)))
     (λ k d l.
-        let inside : k < length labels = omega arith in
-        get_or_default classes k d no_class l
-        ∙ s.done k (omega arith)
-        ∙ ap (λ (n : ℕ). first_with (class_at labels) (points_below n) (class_at labels k)) all
-        ∙ sym (class_at-classes_by (points_below (length labels)) (length labels) (class_at labels) k inside (has-points_below (length labels) k inside))
-        ∙ get_or_default (classes_by (points_below (length labels)) (length labels) (class_at labels)) k no_class d
-        (omega (arith, length-classes_by (points_below (length labels)) (length labels) (class_at labels))))
+    let inside : k < length labels = omega arith in
+    get_or_default classes k d no_class l
+    ∙ s.done k (omega arith)
+    ∙ ap (λ (n : ℕ). first_with (class_at labels) (points_below n) (class_at labels k)) all
+    ∙ sym (class_at-classes_by (points_below (length labels)) (length labels) (class_at labels) k inside (has-points_below (length labels) k inside))
+    ∙ get_or_default (classes_by (points_below (length labels)) (length labels) (class_at labels)) k no_class d
+    (omega (arith, length-classes_by (points_below (length labels)) (length labels) (class_at labels))))
 
 pub labels_valid : (n : ℕ) (label : ℕ → ℕ) → n < 2 ^ 16 → IsPartitionValue (classes_by (points_below n) n label)
 labels_valid n label few =
