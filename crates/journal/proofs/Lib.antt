@@ -1,0 +1,12 @@
+pub mod Between
+pub mod Bytes
+pub mod Closing
+pub mod Entries
+pub mod Keeping
+pub mod Opened
+pub mod Opens
+pub mod Places
+pub mod PutLeaves
+pub mod Reach
+pub mod Stages
+pub mod Wrong
