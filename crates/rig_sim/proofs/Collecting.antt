@@ -1,5 +1,5 @@
 -- The numbers of the `fault` rows, one row after another.
-use Rattle.std.proofs.Common.{◌≡◌, ◌⊎◌, ℕ, ◌+◌, ◌<◌, ◌≤◌, Bool, true, false, cond, List, [], ◌∷◌, ◌++◌, length, get_or, refl, sym, ◌∙◌, ap, subst, inl, inr, ⊎_elim, arith}
+use Rattle.std.proofs.Common.{◌≡◌, ℕ, false, List, [], ◌∷◌, ◌++◌, get_or, sym, subst, inl, inr, ⊎_elim, arith}
 use Rattle.std.specs.Prelude.{Contains, All, IsTrue, ◌↔◌}
 use Rattle.std.specs.Ordering.{nat_cmp}
 use Rattle.std.specs.BTreeSet.{BTreeSet, contains, IsOrdered}
@@ -12,7 +12,7 @@ use Rattle.rig_sim.specs.Rows.{InRange}
 use Rattle.rig_sim.specs.Units.{AreFaults}
 use Rattle.rig_sim.specs.FaultCalls.{AreNumbers, AddsFault}
 use Rattle.rig_sim.specs.declared.row.HarnessRow.{HarnessRow}
-use Rattle.rig_sim.specs.declared.row.HarnessRow.TheVariants.{Points, Fault, NewUnit, NewWire, End}
+use Rattle.rig_sim.specs.declared.row.HarnessRow.TheVariants.{Fault}
 
 -- the set has the numbers of the `fault` rows so far
 pub record Collecting (rows : List HarnessRow) (failing : BTreeSet ℕ) : Type 0 where

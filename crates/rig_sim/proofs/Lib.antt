@@ -7,3 +7,4 @@ pub mod Collecting
 pub mod Searching
 pub mod SimLemmas
 pub mod Starting
+pub mod LawLemmas

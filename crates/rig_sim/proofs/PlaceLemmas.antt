@@ -1,6 +1,6 @@
 -- One more row.
-use Rattle.std.proofs.Common.{◌≡◌, ℕ, ◌+◌, ◌<◌, ◌≤◌, Bool, true, false, cond, List, [], ◌∷◌, ◌++◌, String, length, refl, sym, ◌∙◌, ap, subst, inl, inr, arith}
-use Rattle.std.specs.Prelude.{IsTrue, IsFalse, ◌||◌, ◌&&◌, not, bytes_eq, ◌==◌}
+use Rattle.std.proofs.Common.{◌≡◌, ℕ, ◌+◌, Bool, true, false, cond, List, [], ◌∷◌, ◌++◌, String, refl, sym, ◌∙◌, ap, subst, inl, inr, arith}
+use Rattle.std.specs.Prelude.{◌||◌, ◌&&◌, not, bytes_eq, ◌==◌}
 use Rattle.std.specs.List.{list_any}
 use Rattle.std.specs.BTreeSet.{BTreeSet, contains_text}
 use Rattle.std.specs.declared.alloc.Global.{Global}
@@ -10,7 +10,7 @@ use Rattle.std.proofs.lemmas.Bool.Decides.{eqb_tells}
 use Rattle.std.proofs.lemmas.List.{append-nil}
 use Rattle.rig_sim.specs.declared.row.HarnessRow.{HarnessRow}
 use Rattle.rig_sim.specs.declared.row.HarnessRow.TheVariants.{Points, Fault, NewUnit, NewWire, End}
-use Rattle.rig_sim.specs.Places.{is_first, is_unit_row, has_unit, is_end, has_end, is_open, points_of_row, points_in, is_unit_of, Stands, StandBelow}
+use Rattle.rig_sim.specs.Places.{is_first, is_unit_row, has_unit, is_end, has_end, is_open, points_in, is_unit_of, Stands, StandBelow}
 use Rattle.rig_sim.specs.Above.{unit_key, IsSummary}
 
 -- the rows stand well with one more that stands well below them

@@ -1,6 +1,6 @@
 -- How far the lines of a harness file were read.
-use Rattle.std.proofs.Common.{◌≡◌, ◌⊎◌, ℕ, ◌+◌, ◌<◌, ◌≤◌, Bool, true, false, List, [], ◌∷◌, ◌++◌, length, map, filter, refl, sym, ◌∙◌, ap, subst, inl, inr, arith}
-use Rattle.std.specs.Prelude.{IsTrue, IsFalse, MatchBool, not}
+use Rattle.std.proofs.Common.{◌≡◌, ◌⊎◌, ℕ, ◌+◌, ◌≤◌, Bool, true, false, List, [], ◌∷◌, ◌++◌, length, map, refl, sym, ◌∙◌, ap, subst, inl, inr, arith}
+use Rattle.std.specs.Prelude.{MatchBool, not}
 use mathlib.Core.List.{append_assoc}
 use Rattle.std.proofs.lemmas.List.{append-nil, length-append, map-append}
 use Rattle.std.proofs.lemmas.List.Elements.{filter-append}
@@ -9,7 +9,7 @@ use Rattle.rig_sim.specs.declared.row.HarnessRow.{HarnessRow}
 use Rattle.rig_sim.specs.declared.refusal.HarnessRefusal.{HarnessRefusal}
 use Rattle.rig_sim.specs.declared.refusal.HarnessRefusal.TheVariants.{BadLine, PointRange, SameUnit, NoEnd, TooMany, TooLong, Memory}
 use Rattle.rig_sim.specs.Rows.{row_words, IsRow}
-use Rattle.rig_sim.specs.Places.{Stands, StandBelow}
+use Rattle.rig_sim.specs.Places.{Stands}
 use Rattle.rig_sim.specs.Harness.{most_lines, row_lines, AreRows, IsBad, IsOffPoints, IsRepeated, FirstRefused, AreRefused}
 use Rattle.rig_sim.specs.Above.{ReadsLine, RefusesLine}
 use Rattle.rig_sim.proofs.PlaceLemmas.{StandBelow-push}

@@ -1,12 +1,12 @@
 -- A search over units, and over the points of two groups.
-use Rattle.std.proofs.Common.{◌≡◌, ◌≢◌, ◌⊎◌, ℕ, zero, suc, ◌+◌, ◌<◌, ◌≤◌, Bool, true, false, cond, List, [], ◌∷◌, ◌++◌, Option, Some, None, length, get_or, take, drop, refl, sym, ◌∙◌, ap, subst, inl, inr, ⊎_elim, arith, add-one, drop-cons}
+use Rattle.std.proofs.Common.{◌≡◌, ℕ, zero, suc, ◌+◌, ◌<◌, Bool, true, List, [], ◌∷◌, Some, length, get_or, take, drop, refl, sym, ◌∙◌, ap, subst, ⊎_elim, arith, drop-cons}
 use Rattle.std.specs.Prelude.{Contains, find, slice_get, option_map}
 use Rattle.std.proofs.lemmas.List.{take_more}
 use Rattle.std.proofs.lemmas.List.Elements.{Contains-push_cases}
 use Rattle.partition.specs.Classes.{Same}
 use Rattle.partition.specs.Partitions.{Meets}
 use Rattle.rig.specs.declared.unit.Unit.{Unit as HarnessUnit}
-use Rattle.rig.specs.Joins.{is_unit, unit_rows}
+use Rattle.rig.specs.Joins.{is_unit}
 use Rattle.rig_sim.specs.Units.{IsPlaceOf, MeetsPoint}
 
 slice_get-at : (units : List HarnessUnit) (i : ℕ) (unit : HarnessUnit) → i < length units → unit ≡ get_or units i unit → slice_get units i ≡ Some unit

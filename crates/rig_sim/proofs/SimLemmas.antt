@@ -1,9 +1,8 @@
 -- What each outcome of a call leaves of a simulator.
-use Rattle.std.proofs.Common.{◌≡◌, ◌≢◌, ◌⊎◌, ℕ, zero, suc, ◌+◌, ◌-◌, ◌^◌, ◌<◌, ◌≤◌, min, Bool, true, false, cond, List, [], ◌∷◌, ◌++◌, Option, Some, None, Result, Ok, Err, length, get_or, refl, sym, ◌∙◌, ap, subst, inl, inr, ⊎_elim, arith}
+use Rattle.std.proofs.Common.{◌≡◌, ◌⊎◌, ℕ, zero, suc, ◌+◌, ◌-◌, ◌^◌, ◌<◌, ◌≤◌, min, Bool, true, false, cond, List, [], ◌∷◌, ◌++◌, Option, Some, None, Ok, Err, length, refl, sym, ap, subst, ⊎_elim, arith}
 use Rattle.std.specs.Prelude.{Contains, All, IsTrue, IfSome, slice_get, option_map, ◌↔◌}
 use Rattle.std.proofs.lemmas.List.Elements.{All-head, All-tail, All-cons, All-nil, All-push, All-weaker, All-contains}
-use Rattle.base.specs.Causes.{HasCause}
-use Rattle.partition.specs.Classes.{Same, JoinsBelow, Walk}
+use Rattle.partition.specs.Classes.{JoinsBelow}
 use Rattle.partition.specs.Partitions.{Meets}
 use Rattle.partition.proofs.WalkLaws.{joined_by-walk, walk-joined_by}
 use Rattle.rig.specs.declared.unit.Row.{Row}
@@ -11,9 +10,7 @@ use Rattle.rig.specs.declared.unit.Unit.{Unit as HarnessUnit}
 use Rattle.rig.specs.declared.event.Event.{Event}
 use Rattle.rig.specs.declared.event.Event.TheVariants.{Reading}
 use Rattle.rig.specs.declared.event.Tally.{Tally}
-use Rattle.rig.specs.declared.rig.RigStop.{RigStop}
 use Rattle.rig.specs.declared.rig.RigStop.TheVariants.{Failed, Memory}
-use Rattle.rig.specs.declared.rig.SeatAnswer.{SeatAnswer}
 use Rattle.rig.specs.declared.rig.SeatAnswer.TheVariants.{Present, Absent}
 use Rattle.rig.specs.Joins.{joins_of, joined_classes, unit_rows}
 use Rattle.rig.specs.Calls.{IsBelowLast, AreGroups, AreJoined, Conducts, with_readings}
@@ -21,7 +18,7 @@ use Rattle.rig.specs.Seating.{Seats, empty_tally}
 use Rattle.rig_sim.specs.declared.sim_rig.SimRig.TheInside.{Inside}
 use Rattle.rig_sim.specs.Units.{IsPlaceOf}
 use Rattle.rig_sim.specs.FaultCalls.{FaultCalls, numbers_to}
-use Rattle.rig_sim.specs.SimRig.{SimState, rows_at, rows_of, IsKept}
+use Rattle.rig_sim.specs.SimRig.{rows_at, rows_of, IsKept}
 use Rattle.rig_sim.specs.SimView.{sim_state, IsSim}
 use Rattle.rig_sim.proofs.Numbers.{numbers_to-most}
 

@@ -1,5 +1,5 @@
 -- What well placed rows give a simulator.
-use Rattle.std.proofs.Common.{◌≡◌, ◌⊎◌, ℕ, zero, suc, ◌+◌, ◌-◌, ◌^◌, ◌<◌, ◌≤◌, Bool, true, false, cond, List, [], ◌∷◌, ◌++◌, Some, None, length, get_or, refl, sym, ◌∙◌, ap, subst, arith}
+use Rattle.std.proofs.Common.{◌≡◌, ℕ, zero, suc, ◌<◌, ◌≤◌, Bool, true, false, List, [], ◌∷◌, ◌++◌, None, length, refl, ◌∙◌, ap, arith}
 use Rattle.std.specs.Prelude.{Contains, All, IsTrue, ◌&&◌, not, nat_lt, ◌==◌}
 use Rattle.std.proofs.lemmas.Bool.Decides.{nat_tests}
 use Rattle.std.proofs.lemmas.List.Elements.{All-cons, All-nil}
@@ -13,7 +13,7 @@ use Rattle.rig.specs.Joins.{joins_of}
 use Rattle.rig_sim.specs.declared.row.HarnessRow.{HarnessRow}
 use Rattle.rig_sim.specs.declared.row.HarnessRow.TheVariants.{Points, Fault, NewUnit, NewWire, End}
 use Rattle.rig_sim.specs.Rows.{InRange}
-use Rattle.rig_sim.specs.Places.{is_first, has_end, points_in, is_on_points, Stands, StandBelow}
+use Rattle.rig_sim.specs.Places.{is_first, has_end, points_in, is_on_points, StandBelow}
 use Rattle.rig_sim.specs.Units.{elements_of, units_of}
 use Rattle.rig_sim.proofs.PlaceLemmas.{and_left, points_in-push}
 

@@ -1,7 +1,7 @@
 -- The harness file: what it says, and when it is refused.
 --     IsHarness bytes rows       the file is in form, and these are its rows
 --     IsRefused bytes refusal    the file is refused so
-use Rattle.std.specs.Prelude.{◌≡◌, ◌⊎◌, ℕ, ◌+◌, ◌≤◌, ◌<◌, true, false, not, List, [], ◌∷◌, ◌++◌, length, map, filter, IsTrue, IsFalse}
+use Rattle.std.specs.Prelude.{◌≡◌, ◌⊎◌, ℕ, ◌+◌, ◌≤◌, ◌<◌, not, List, [], ◌∷◌, ◌++◌, length, map, filter, IsTrue, IsFalse}
 use Rattle.lines.specs.Lines.{lines_of}
 use Rattle.lines.specs.Words.{words_of, is_passed_over}
 use Rattle.rig_sim.specs.declared.row.HarnessRow.{HarnessRow}

@@ -7,3 +7,4 @@ pub mod Above
 pub mod FaultCalls
 pub mod SimRig
 pub mod SimView
+pub mod Laws

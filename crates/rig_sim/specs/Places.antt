@@ -1,5 +1,5 @@
 -- Where a row may stand, and what it may name, with regard to the rows above it.
-use Rattle.std.specs.Prelude.{◌≡◌, ℕ, ◌==◌, ◌&&◌, Bool, true, false, not, nat_lt, List, [], ◌∷◌, ◌++◌, IsTrue, bytes_eq}
+use Rattle.std.specs.Prelude.{ℕ, ◌==◌, ◌&&◌, Bool, true, false, not, nat_lt, List, [], ◌∷◌, ◌++◌, IsTrue, bytes_eq}
 use Rattle.std.specs.List.{list_any}
 use Rattle.rig_sim.specs.declared.row.HarnessRow.{HarnessRow}
 use Rattle.rig_sim.specs.declared.row.HarnessRow.TheVariants.{Points, Fault, NewUnit, NewWire, End}

@@ -1,5 +1,5 @@
 -- The rows of a harness file, as text.
-use Rattle.std.specs.Prelude.{◌≡◌, ℕ, ◌≤◌, ◌<◌, List, [], ◌∷◌, codes}
+use Rattle.std.specs.Prelude.{◌≡◌, ℕ, ◌≤◌, List, [], ◌∷◌, codes}
 use Rattle.std.specs.Fmt.{decimal}
 use Rattle.lines.specs.Words.{words_of}
 use Rattle.partition.specs.Names.{IsName}

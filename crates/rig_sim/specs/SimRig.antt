@@ -1,6 +1,6 @@
 -- A simulator as contracts see it.
 use Rattle.std.specs.Prelude.{◌≡◌, ◌↔◌, ◌⊎◌, ◌+◌, ◌-◌, ◌^◌, ◌≤◌, min, ℕ, Bool, true, false, List, [], Option, Some, None, All, Contains, length, slice_get, option_map, option_and_then, IsTrue, IfSome}
-use Rattle.partition.specs.Classes.{JoinsBelow, points_below}
+use Rattle.partition.specs.Classes.{JoinsBelow}
 use Rattle.rig.specs.declared.unit.Row.{Row}
 use Rattle.rig.specs.declared.unit.Unit.{Unit as HarnessUnit}
 use Rattle.rig.specs.declared.event.Tally.{Tally}

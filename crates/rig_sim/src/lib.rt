@@ -4,6 +4,7 @@
 mod above;
 mod fault_calls;
 mod harness;
+pub mod laws;
 mod refusal;
 mod row;
 mod sim_rig;

@@ -1,6 +1,6 @@
-use Rattle.std.proofs.Common.{◌≡◌, List, ℕ, subst}
+use Rattle.std.proofs.Common.{List, ℕ, subst}
 use Rattle.lines.specs.Lines.{lines_of}
-use Rattle.rig_sim.proofs.Reading.{Progress, step, stop, end}
+use Rattle.rig_sim.proofs.Reading.{Progress, step}
 use Rattle.rig_sim.proofs.harness.read_lines.Goals as goal
 
 pub loop-line-preserved : goal.loop-line-preserved

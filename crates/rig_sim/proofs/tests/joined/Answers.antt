@@ -1,5 +1,4 @@
-use Rattle.std.proofs.Common.{◌≡◌, ℕ, ◌<◌, List, [], ◌∷◌, sym, ◌∙◌, arith}
-use Rattle.std.specs.Prelude.{Contains}
+use Rattle.std.proofs.Common.{◌≡◌, ℕ, ◌<◌, [], ◌∷◌, sym, ◌∙◌, arith}
 use Rattle.rig.specs.Calls.{AreGroups}
 use Rattle.rig.proofs.Groups.{IsGroup-one, Contains-one}
 use Rattle.rig_sim.proofs.tests.joined.Goals as goal

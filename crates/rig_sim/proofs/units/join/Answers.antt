@@ -1,4 +1,3 @@
-use Rattle.std.proofs.Common.{◌≡◌, ℕ, List}
 use Rattle.rig_sim.proofs.Joining.{joining_start, joining_step, row_below}
 use Rattle.rig_sim.proofs.units.join.Goals as goal
 

@@ -1,4 +1,3 @@
-use Rattle.std.proofs.Common.{◌≡◌, ℕ, List}
 use Rattle.rig_sim.proofs.Searching.{meets-more}
 use Rattle.rig_sim.proofs.units.meets.Goals as goal
 

@@ -1,4 +1,3 @@
-use Rattle.std.proofs.Common.{◌≡◌, ℕ, List}
 use Rattle.rig_sim.proofs.Searching.{meets_point-more}
 use Rattle.rig_sim.proofs.units.meets_point.Goals as goal
 

@@ -1,4 +1,4 @@
-use Rattle.std.proofs.Common.{◌≡◌, ℕ, List, refl, sym, ◌∙◌, ap, Bool}
+use Rattle.std.proofs.Common.{ℕ, List, ◌∙◌, ap}
 use Rattle.std.specs.BTreeSet.{contains_text}
 use Rattle.std.specs.List.{list_any}
 use Rattle.rig_sim.specs.Places.{is_unit_of}

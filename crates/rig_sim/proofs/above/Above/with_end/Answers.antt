@@ -1,4 +1,4 @@
-use Rattle.std.proofs.Common.{◌≡◌, ℕ, List, refl, sym}
+use Rattle.std.proofs.Common.{sym}
 use Rattle.rig_sim.proofs.PlaceLemmas.{summary-end}
 use Rattle.rig_sim.proofs.above.Above.with_end.Goals as goal
 

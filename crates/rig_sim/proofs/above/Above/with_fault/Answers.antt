@@ -1,4 +1,4 @@
-use Rattle.std.proofs.Common.{◌≡◌, ℕ, List, refl, sym}
+use Rattle.std.proofs.Common.{refl, sym}
 use Rattle.rig_sim.specs.declared.row.HarnessRow.TheVariants.{Fault}
 use Rattle.rig_sim.proofs.PlaceLemmas.{summary-plain, open_fault}
 use Rattle.rig_sim.proofs.above.Above.with_fault.Goals as goal

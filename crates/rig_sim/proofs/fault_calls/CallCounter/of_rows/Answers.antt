@@ -1,4 +1,4 @@
-use Rattle.std.proofs.Common.{◌≡◌, ℕ, List, take, subst, arith}
+use Rattle.std.proofs.Common.{List, subst, arith}
 use Rattle.std.proofs.lemmas.List.{take_all}
 use Rattle.rig_sim.specs.declared.row.HarnessRow.{HarnessRow}
 use Rattle.rig_sim.proofs.Collecting.{Collecting, collecting_faults, collecting_numbers}

@@ -1,4 +1,4 @@
-use Rattle.std.proofs.Common.{◌≡◌, ◌⊎◌, ℕ, ◌-◌, ◌^◌, ◌≤◌, ◌<◌, Bool, true, List, Some, Ok, Err, length, refl, ap, sym, ◌∙◌, subst, inl, inr, arith}
+use Rattle.std.proofs.Common.{◌≡◌, ◌⊎◌, true, List, Some, Ok, Err, length, refl, ap, sym, ◌∙◌, subst, inl, inr, arith}
 use Rattle.partition.specs.Classes.{JoinsBelow}
 use Rattle.partition.proofs.JoinedPartition.{joined_by-own}
 use Rattle.rig.specs.declared.unit.Row.{Row}
