@@ -1,0 +1,4 @@
+pub mod Outcomes
+pub mod Ranges
+pub mod Clusters
+pub mod Laws

@@ -1,0 +1,24 @@
+//! The program of a harness, and the outcome of a unit's test.
+//!
+//! - [`Program`] is what a wirelist gives: nets with their names, components with their windows, the tests at high voltage.
+//! - [`clusters`] gives the points' partition by cluster; [`laws`] says that two points are in one cluster exactly where a
+//!   walk of components leads from the net of the one to that of the other.
+//! - [`Outcome`] is what the test of a unit found, and its verdict has the lengths of its lists. specs/Ranges.antt says in
+//!   which ranges records keep outcomes.
+//! - [`WireRefusal`] names the ways in which a wirelist is refused.
+#![tactic(auto)]
+
+mod cluster;
+mod faults;
+pub mod laws;
+mod outcome;
+mod parts;
+mod program;
+mod refusal;
+
+pub use cluster::clusters;
+pub use faults::{LeakFault, LeakFaults, PartFault, PartFaultKind, PartFaults};
+pub use outcome::{Outcome, Verdict};
+pub use parts::{Diode, Diodes, Names, Resistor, Resistors};
+pub use program::{Insulation, Program, Withstand};
+pub use refusal::WireRefusal;

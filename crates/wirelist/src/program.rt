@@ -1,0 +1,62 @@
+//! The program of a harness: what its units are tested against.
+
+use crate::{Diodes, Names, Resistors};
+use base::Memory;
+use partition::{Name, Nets};
+use std::alloc::Global;
+
+/// The test of insulation resistance.
+#[derive(Clone, Copy, Debug, PartialEq, Eq)]
+pub struct Insulation {
+    pub volts: u16,
+    pub ticks: u16,
+    pub megohms: u32,
+}
+
+/// The test of dielectric withstand.
+#[derive(Clone, Copy, Debug, PartialEq, Eq)]
+pub struct Withstand {
+    pub volts: u16,
+    pub ticks: u16,
+    pub nanoamps: u32,
+}
+
+/// What a unit is tested against. Components are numbered from 0, resistors first.
+#[derive(Debug, Drop)]
+pub struct Program {
+    pub part: Name,
+    pub revision: u32,
+    pub nets: Nets,
+    /// The names of the named nets, in order.
+    pub names: Names,
+    pub resistors: Resistors,
+    pub diodes: Diodes,
+    pub insulation: Option<Insulation>,
+    pub withstand: Option<Withstand>,
+    pub attempts: u8,
+}
+
+impl Program {
+    ghost use Rattle.std.specs.Prelude.{◌≡◌, IfOk};
+
+    /// The same program again.
+    pub fn copy(&self, alloc: Global) -> Result<Self, Memory>
+        ensures { IfOk result (λ p. p ≡ self.now) }
+    {
+        let nets = self.nets.copy(alloc)?;
+        let names = self.names.copy(alloc)?;
+        let resistors = self.resistors.copy(alloc)?;
+        let diodes = self.diodes.copy(alloc)?;
+        Ok(Program {
+            part: self.part,
+            revision: self.revision,
+            nets,
+            names,
+            resistors,
+            diodes,
+            insulation: self.insulation,
+            withstand: self.withstand,
+            attempts: self.attempts,
+        })
+    }
+}
