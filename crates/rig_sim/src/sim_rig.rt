@@ -49,7 +49,11 @@ impl SimRig {
     ghost use Rattle.rig_sim.specs.Places.{StandBelow, has_end};
     ghost use Rattle.rig_sim.specs.SimRig.{IsNew};
 
-    /// The rig of a harness file.
+    /// The rig of a harness file, which no call was asked yet.
+    ///
+    /// # Errors
+    ///
+    /// The first refusal that the format gives, or `Memory` where memory ran out.
     pub fn read(alloc: Global, bytes: &[u8]) -> Result<Self, HarnessRefusal>
         ensures file { IfOk result (λ sim. (rows : List HarnessRow) × IsHarness bytes.now rows × IsNew rows sim) }
         ensures refused { IfErr result (λ refusal. (refusal ≡ HarnessRefusal.Memory) ⊎ IsRefused bytes.now refusal) }
