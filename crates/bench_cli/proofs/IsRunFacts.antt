@@ -1,0 +1,63 @@
+-- What a run promises, from the way in which it ended.
+use Rattle.std.proofs.Common.{◌≡◌, ◌⊎◌, inl, inr, ℕ, List, Option, None, Some, refl}
+use Rattle.rig_sim.specs.declared.row.HarnessRow.{HarnessRow}
+use Rattle.rig_sim.specs.Harness.{IsHarness}
+use Rattle.rig_sim.specs.SimRig.{SimState}
+use Rattle.bench_cli.specs.Words.{IsCommand}
+use Rattle.bench_cli.specs.Run.{Run, Ends}
+use Rattle.bench_cli.specs.Run.Ends.{no_command, harness_fault, harness_refused, harness_memory, wires_fault, wires_refused, wires_memory, checked}
+use Rattle.bench_cli.specs.Promises.{TellsHarness, Failed, IsRun}
+use Rattle.rig_sim.proofs.LawLemmas.{harness_law}
+use Rattle.bench_cli.proofs.RunLemmas.{way, harness_told, refusal_told, no_command_fact, usage_fact, harness_refused_fact, refused_harness_fact, wires_refused_fact, refused_wires_fact, read_fault_fact}
+use Rattle.bench_cli.proofs.UnitFacts.{checked_fact, write_fault_fact, fixture_empty_fact, rig_fault_fact, empty_fixture_fact, complete_fact}
+
+module _ (run : Run) where
+  abbrev HandedFact : Type 0
+  HandedFact = IsCommand run.words × (rows : List HarnessRow) × ((file : List ℕ) → TellsHarness run file → IsHarness file rows)
+
+  handed_out_fact : (status : ℕ) (rig : Option SimState) → Ends run status rig → (sim : SimState) → rig ≡ Some sim → HandedFact
+  handed_out_fact status rig (no_command none line) sim out = cc
+  handed_out_fact status rig (harness_fault command rose line) sim out = cc
+  handed_out_fact status rig (harness_refused command refusal refuses line) sim out = cc
+  handed_out_fact status rig (harness_memory command wrote) sim out = cc
+  handed_out_fact status rig (wires_fault command new takes rose line) sim out = (command, takes.rows, harness_told takes)
+  handed_out_fact status rig (wires_refused command new takes refuses line) sim out = (command, takes.rows, harness_told takes)
+  handed_out_fact status rig (wires_memory command new takes wrote) sim out = (command, takes.rows, harness_told takes)
+  handed_out_fact status rig (checked {attempt = attempt} {serial = serial} words new final takes wires ends) sim out = ((serial, attempt, words), takes.rows, harness_told takes)
+
+  abbrev KeptFact : ℕ → Type 0
+  KeptFact status = (status ≡ 9) ⊎ ((status ≡ 6) × Failed run.harness)
+
+  kept_back_fact : (status : ℕ) (rig : Option SimState) → Ends run status rig → rig ≡ None → IsCommand run.words → (file : List ℕ) (rows : List HarnessRow) → TellsHarness run file → IsHarness file rows → KeptFact status
+  kept_back_fact status rig (no_command none line) out command file rows told is = absurd (none command)
+  kept_back_fact status rig (harness_fault given rose (inl (at, line))) out command file rows told is = inr (at, rose)
+  kept_back_fact status rig (harness_fault given rose (inr (at, line))) out command file rows told is = inl at
+  kept_back_fact status rig (harness_refused given refusal refuses line) out command file rows told is = absurd ((harness_law file).apart rows refusal is (refusal_told refuses file told))
+  kept_back_fact status rig (harness_memory given wrote) out command file rows told is = inl refl
+  kept_back_fact status rig (wires_fault given new takes rose line) out command file rows told is = cc
+  kept_back_fact status rig (wires_refused given new takes refuses line) out command file rows told is = cc
+  kept_back_fact status rig (wires_memory given new takes wrote) out command file rows told is = cc
+  kept_back_fact status rig (checked words new final takes wires ends) out command file rows told is = cc
+
+  pub is_run : (status : ℕ) (rig : Option SimState) → Ends run status rig → IsRun run status rig
+  is_run status rig ends =
+      let by = way run status rig ends in
+      record {
+        ends = ends;
+        no_command = no_command_fact run status rig by;
+        usage = usage_fact run status rig by;
+        harness_refused = harness_refused_fact run status rig by;
+        refused_harness = refused_harness_fact run status rig by;
+        wires_refused = wires_refused_fact run status rig by;
+        refused_wires = refused_wires_fact run status rig by;
+        read_fault = read_fault_fact run status rig by;
+        fixture_empty = fixture_empty_fact run status rig by;
+        empty_fixture = λ rows form. empty_fixture_fact run status rig rows by form;
+        rig_fault = rig_fault_fact run status rig by;
+        checked = checked_fact run status rig by;
+        write_fault = write_fault_fact run status rig by;
+        complete = λ rows elements form no_row harness_read wires_read written counts.
+            complete_fact run status rig rows by elements form (record { no_fault_row = no_row; harness_read = harness_read; wires_read = wires_read; written = written; counts = counts });
+        handed_out = handed_out_fact status rig ends;
+        kept_back = kept_back_fact status rig ends;
+      }

@@ -1,0 +1,17 @@
+use Rattle.std.proofs.Common.{ap}
+use Rattle.bench_cli.proofs.CheckLemmas.{print_ends, fault_ends, memory_ends}
+use Rattle.bench_cli.proofs.check.check_seated.Goals as goal
+
+pub returns-in-Ok : goal.returns-in-Ok
+returns-in-Ok g c =
+    print_ends _ _ _ _ (g.R.Rig.state c.into_rig.result) (ap g.R.Rig.state c.into_rig.ensures.rig) c.in-Ok.sheet c.print-status.result c.in-Ok.ensures.reads c.in-Ok.ensures.compares c.print-status.ensures
+
+pub returns-in-Err-Failed : goal.returns-in-Err-Failed
+returns-in-Err-Failed g c =
+    fault_ends _ _ _ _ (g.R.Rig.state c.into_rig-in-Err-Failed.result) (ap g.R.Rig.state c.into_rig-in-Err-Failed.ensures.rig) c.closed-status.result
+    (rw c.in-Err-Failed.field-0-is at c.in-Err-Failed.ensures.reads) c.closed-status.ensures
+
+pub returns-in-Err-Memory : goal.returns-in-Err-Memory
+returns-in-Err-Memory g c =
+    memory_ends (g.R.Rig.state c.into_rig-in-Err-Memory.result) (g.O.Stream.got c.args.out.now) (g.O.Stream.write_faults c.args.out.now) (ap g.R.Rig.state c.into_rig-in-Err-Memory.ensures.rig)
+    (rw c.in-Err-Memory.field-0-is at c.in-Err-Memory.ensures.reads)

@@ -1,0 +1,87 @@
+-- A run of the program: what it is given, how it ends and what it leaves.
+--     Run                 what a run is given, and what its sources and its sink are after it
+--     Ends run status rig the ways in which a run ends, each with its cause, its status and its closing line
+use Rattle.std.specs.Prelude.{◌++◌, [], ℕ, List, Option, None, Some, codes, decimal, zip, unwrap_or}
+use Rattle.base.specs.Causes.{Rose}
+use Rattle.bench_edge.specs.Whole.{TookFirst}
+use Rattle.partition.specs.NetTable.{NetTable}
+use Rattle.rig_sim.specs.declared.row.HarnessRow.{HarnessRow}
+use Rattle.rig_sim.specs.declared.refusal.HarnessRefusal.{HarnessRefusal}
+use Rattle.rig_sim.specs.Refusals.{number_of, line_of}
+use Rattle.rig_sim.specs.Harness.{IsHarness, IsRefused}
+use Rattle.rig_sim.specs.SimRig.{SimState, IsNew}
+use Rattle.first_form.specs.FirstForm.{Wires, IsFirstForm, Reads}
+use Rattle.continuity_check.specs.Compared.{compared_of}
+use Rattle.bench_cli.specs.Words.{IsContinuity, IsCommand}
+use Rattle.bench_cli.specs.Closing.{Sunk, Wrote, ClosesWith, usage_line, read_fault_line}
+use Rattle.bench_cli.specs.CheckEnds.{CheckEnds}
+
+-- the bytes that a source has left and its count of failed reads, before and after
+pub record Read : Type 0 where
+  pub left : Option (List ℕ)
+  pub left_after : Option (List ℕ)
+  pub faults : ℕ
+  pub faults_after : ℕ
+
+pub record Run : Type 0 where
+  pub words : List (List ℕ)
+  pub harness : Read
+  pub wires : Read
+  pub sunk : Sunk
+
+-- how many bytes of each file are read at most: one more than it may have
+abbrev pub most_of_harness : ℕ
+most_of_harness = 8388609
+
+abbrev pub most_of_wires : ℕ
+most_of_wires = 1048577
+
+-- `harness refused N`, and `line L` where it has a line
+abbrev pub line_words : Option ℕ → List ℕ
+line_words None = []
+line_words (Some line) = codes " line " ++ decimal line
+
+abbrev pub refusal_line : HarnessRefusal → List ℕ
+refusal_line refusal = codes "harness refused " ++ (decimal (unwrap_or (number_of refusal) 0) ++ (line_words (line_of refusal) ++ codes "\n"))
+
+abbrev pub first_form_line : List ℕ
+first_form_line = codes "wirelist not in the first form\n"
+
+-- the harness was read, and this is its simulator
+pub record TakesHarness (harness : Read) (sim : SimState) : Type 0 where
+  pub file : List ℕ
+  pub taken : TookFirst harness.left harness.left_after most_of_harness file
+  pub rows : List HarnessRow
+  pub is_harness : IsHarness file rows
+  pub is_new : IsNew rows sim
+
+-- it was read, and is refused
+pub record RefusesHarness (harness : Read) (refusal : HarnessRefusal) : Type 0 where
+  pub file : List ℕ
+  pub taken : TookFirst harness.left harness.left_after most_of_harness file
+  pub is_refused : IsRefused file refusal
+
+-- the wirelist was read, and says these names and nets
+pub record TakesWires (wires : Read) (points : ℕ) (names : List (List ℕ)) (nets : NetTable) : Type 0 where
+  pub file : List ℕ
+  pub taken : TookFirst wires.left wires.left_after most_of_wires file
+  pub reads : Reads file points names nets
+
+-- it was read, and is not in form
+pub record RefusesWires (wires : Read) (points : ℕ) : Type 0 where
+  pub file : List ℕ
+  pub taken : TookFirst wires.left wires.left_after most_of_wires file
+  pub none : (w : Wires) → IsFirstForm file points w → ⊥
+
+-- In each of these ways the status may be 9 in place of its own, where memory ran out.
+pub data Ends (run : Run) : ℕ → Option SimState → Type 0 where
+  no_command : {status : ℕ} → (IsCommand run.words → ⊥) → ClosesWith run.sunk usage_line 2 status → Ends run status None
+  harness_fault : {status : ℕ} → IsCommand run.words → Rose run.harness.faults run.harness.faults_after → ClosesWith run.sunk read_fault_line 6 status → Ends run status None
+  harness_refused : {status : ℕ} → IsCommand run.words → (refusal : HarnessRefusal) → RefusesHarness run.harness refusal → ClosesWith run.sunk (refusal_line refusal) 3 status → Ends run status None
+  harness_memory : IsCommand run.words → Wrote run.sunk [] → Ends run 9 None
+  wires_fault : {status : ℕ} → IsCommand run.words → (sim : SimState) → TakesHarness run.harness sim → Rose run.wires.faults run.wires.faults_after → ClosesWith run.sunk read_fault_line 6 status → Ends run status (Some sim)
+  wires_refused : {status : ℕ} → IsCommand run.words → (sim : SimState) → TakesHarness run.harness sim → RefusesWires run.wires sim.state.points → ClosesWith run.sunk first_form_line 4 status → Ends run status (Some sim)
+  wires_memory : IsCommand run.words → (sim : SimState) → TakesHarness run.harness sim → Wrote run.sunk [] → Ends run 9 (Some sim)
+  -- both files were read, and the unit was looked for
+  checked : {status attempt : ℕ} {serial : List ℕ} {names : List (List ℕ)} {nets : NetTable} → IsContinuity run.words serial attempt → (sim final : SimState) → TakesHarness run.harness sim
+      → TakesWires run.wires sim.state.points names nets → CheckEnds sim.state final.state serial attempt (compared_of (zip names nets.named)) run.sunk status → Ends run status (Some final)

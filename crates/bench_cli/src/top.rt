@@ -1,0 +1,110 @@
+//! The top call.
+
+ghost use Rattle.std.specs.Prelude.{◌≡◌, ℕ, List, map, string_bytes};
+ghost use Rattle.bench_cli.specs.Words.{IsContinuity};
+ghost use Rattle.bench_cli.specs.Run.{Read, TakesHarness, Ends};
+ghost use Rattle.bench_cli.specs.Promises.{IsRun};
+
+use crate::check::{Checked, check_unit, closed};
+use crate::closing::status;
+use crate::files::{close_harness, close_wires, read_harness, read_wires};
+use crate::words::{Command, read_words};
+use bench_edge::{Sink, Source};
+use rig::Rig;
+use rig_sim::SimRig;
+use std::alloc::Global;
+
+const USAGE: &str =
+    "usage: bench continuity|learn|run|serve|report|unit|import|export|soak [options]\n";
+
+/// How a run ended: the exit status, and the simulator where the harness file was read.
+pub struct Ended {
+    pub status: u8,
+    pub rig: Option<SimRig>,
+}
+
+/// Does what the words ask: reads the files, checks the unit and writes what was found, or why there is nothing to write.
+pub fn bench<H: Source, W: Source, O: Sink>(
+    alloc: Global,
+    words: &[String],
+    harness: &mut H,
+    wires: &mut W,
+    out: &mut O,
+) -> Ended
+    ensures { IsRun (record {
+      words = map string_bytes words.now;
+      harness = record { left = H.left harness.old; left_after = H.left harness.new; faults = H.read_faults harness.old; faults_after = H.read_faults harness.new };
+      wires = record { left = W.left wires.old; left_after = W.left wires.new; faults = W.read_faults wires.old; faults_after = W.read_faults wires.new };
+      sunk = record { got = O.got out.old; got_after = O.got out.new; faults = O.write_faults out.old; faults_after = O.write_faults out.new };
+    }) result.status result.rig }
+{
+    run(alloc, words, harness, wires, out)
+}
+
+/// Reads the words and the files, and ends in one of the ways of a run.
+fn run<H: Source, W: Source, O: Sink>(
+    alloc: Global,
+    words: &[String],
+    harness: &mut H,
+    wires: &mut W,
+    out: &mut O,
+) -> Ended
+    ensures { Ends (record {
+      words = map string_bytes words.now;
+      harness = record { left = H.left harness.old; left_after = H.left harness.new; faults = H.read_faults harness.old; faults_after = H.read_faults harness.new };
+      wires = record { left = W.left wires.old; left_after = W.left wires.new; faults = W.read_faults wires.old; faults_after = W.read_faults wires.new };
+      sunk = record { got = O.got out.old; got_after = O.got out.new; faults = O.write_faults out.old; faults_after = O.write_faults out.new };
+    }) result.status result.rig }
+{
+    let Some(command) = read_words(words) else {
+        return Ended {
+            status: closed(out, USAGE.as_bytes(), status::NO_COMMAND),
+            rig: None,
+        };
+    };
+    match read_harness(alloc, harness) {
+        Ok(sim) => check(alloc, &command, sim, wires, out),
+        Err(stop) => Ended {
+            status: close_harness(alloc, stop, out),
+            rig: None,
+        },
+    }
+}
+
+/// Reads the wirelist and checks the unit.
+fn check<W: Source, O: Sink>(
+    alloc: Global,
+    command: &Command,
+    sim: SimRig,
+    wires: &mut W,
+    out: &mut O,
+) -> Ended
+    requires { sim.state.volts ≡ 0 }
+    ensures { (words : List (List ℕ)) (harness : Read) → IsContinuity words command.now.serial command.now.attempt → TakesHarness harness sim → Ends (record {
+      words = words;
+      harness = harness;
+      wires = record { left = W.left wires.old; left_after = W.left wires.new; faults = W.read_faults wires.old; faults_after = W.read_faults wires.new };
+      sunk = record { got = O.got out.old; got_after = O.got out.new; faults = O.write_faults out.old; faults_after = O.write_faults out.new };
+    }) result.status result.rig }
+{
+    match read_wires(alloc, wires, sim.points()) {
+        Ok(read) => {
+            let Checked { status, rig } = check_unit(
+                alloc,
+                sim,
+                command,
+                read.names.as_slice(),
+                &read.nets,
+                out,
+            );
+            Ended {
+                status,
+                rig: Some(rig),
+            }
+        }
+        Err(stop) => Ended {
+            status: close_wires(stop, out),
+            rig: Some(sim),
+        },
+    }
+}
