@@ -1,15 +1,17 @@
 -- Classes of nets, link by link.
-use Rattle.std.proofs.Common.{◌≡◌, ◌<◌, ◌≤◌, ◌+◌, ℕ, List, [], ◌∷◌, ◌++◌, length, get_or, map, take, refl, sym, ◌∙◌, ap, arith, All, eqb, true}
+use Rattle.std.proofs.Common.{◌≡◌, ◌<◌, ◌≤◌, ◌+◌, ℕ, List, [], ◌∷◌, ◌++◌, length, get_or, map, take, refl, sym, ◌∙◌, ap, arith, All, eqb, true, not, ◌==◌}
 use Rattle.std.proofs.lemmas.List.{map_more}
-use Rattle.std.proofs.lemmas.List.FromFn.{length-map-range_with_len, get_or-map-range_with_len, map-range_with_len_more}
+use Rattle.std.proofs.lemmas.List.Filters.{length-filter_both}
+use Rattle.std.proofs.lemmas.List.FromFn.{length-range_with_len, length-map-range_with_len, get_or-map-range_with_len, map-range_with_len_more}
 use Rattle.partition.specs.Classes.{points_below, class_at, classes_by, merged, has, no_class}
 use Rattle.partition.specs.Partitions.{IsPartitionValue}
 use Rattle.partition.specs.NetTable.{NetTable, IsNetTable, net_at, net_count}
+use Rattle.partition.specs.Heads.{heads, heads_below}
 use Rattle.partition.proofs.ClassLaws.{classes_by-agree, points_below-AllBelow}
 use Rattle.partition.proofs.WalkLaws.{length-merged}
 use Rattle.partition.proofs.KeptLemmas.{net_at-below}
 use Rattle.wirelist.specs.declared.program.Program.{Program}
-use Rattle.wirelist.specs.Clusters.{linked_by, first_nets_of, net_clusters, resistor_link, diode_link, cluster_classes}
+use Rattle.wirelist.specs.Clusters.{linked_by, first_nets_of, net_clusters, resistor_link, diode_link, cluster_classes, cluster_count}
 
 pub linked_by-append : (classes : List ℕ) (xs ys : List (ℕ × ℕ)) → linked_by classes (xs ++ ys) ≡ linked_by (linked_by classes xs) ys
 linked_by-append classes [] ys = refl
@@ -74,3 +76,10 @@ label_more t classes labels next p point x is step value number =
 
 pub labels_fit : (t : NetTable) (classes labels : List ℕ) → labels ≡ first_nets_of t classes → length labels ≡ t.points
 labels_fit t classes labels is = ap length is ∙ length-map-range_with_len (λ q. class_at classes (net_at t q)) 0 t.points
+
+-- the heads of the classes of nets are the first nets of clusters
+pub heads_are_firsts : (p : Program) (classes : List ℕ) → classes ≡ net_clusters p → length classes ≡ net_count p.nets → length (heads classes) ≡ cluster_count p
+heads_are_firsts p classes same size = ap length (ap (heads_below classes) size ∙ ap (λ (cs : List ℕ). heads_below cs (net_count p.nets)) same)
+
+pub heads_few : (classes : List ℕ) → length (heads classes) ≤ length classes
+heads_few classes = let both = length-filter_both (λ p. class_at classes p == p) (λ p. not (class_at classes p == p)) (λ p. refl) (points_below (length classes)) in let size = length-range_with_len 0 (length classes) in omega arith

@@ -3,7 +3,7 @@
 ghost use Rattle.std.specs.Prelude.{◌≡◌, ◌<◌, ◌≤◌, ◌^◌, length, map, All, IfOk};
 ghost use Rattle.partition.specs.NetTable.{net_at, net_count};
 ghost use Rattle.partition.specs.Classes.{class_at};
-ghost use Rattle.wirelist.specs.Clusters.{cluster_classes, linked_by, resistor_link, diode_link, first_nets_of, ResistorsInside, DiodesInside, ComponentsInside};
+ghost use Rattle.wirelist.specs.Clusters.{cluster_classes, cluster_count, net_clusters, linked_by, resistor_link, diode_link, first_nets_of, ResistorsInside, DiodesInside, ComponentsInside};
 
 use crate::{Diode, Program, Resistor};
 use base::Memory;
@@ -15,12 +15,34 @@ pub fn clusters(alloc: Global, p: &Program) -> Result<Partition, Memory>
     requires { ComponentsInside p.now }
     ensures { IfOk result (λ classes. classes ≡ cluster_classes p.now) }
 {
+    let linked = linked_nets(alloc, p)?;
+    let labels = first_nets(alloc, &p.nets, &linked)?;
+    Partition::by_labels(alloc, labels.as_slice())
+}
+
+/// How many clusters there are.
+pub fn cluster_count(alloc: Global, p: &Program) -> Result<u32, Memory>
+    requires { ComponentsInside p.now }
+    ensures { IfOk result (λ count. count ≡ cluster_count p.now) }
+{
+    let linked = linked_nets(alloc, p)?;
+    let firsts = linked.heads(alloc)?;
+    Ok(firsts.len() as u32)
+}
+
+/// The nets that components link, as classes.
+fn linked_nets(alloc: Global, p: &Program) -> Result<Partition, Memory>
+    requires { ComponentsInside p.now }
+    ensures linked { IfOk result (λ linked. linked ≡ net_clusters p.now) }
+    ensures size { IfOk result (λ linked. length linked ≡ net_count p.now.nets) }
+    ensures few { IfOk result (λ _. net_count p.now.nets ≤ p.now.nets.points) }
+    ensures small { IfOk result (λ _. p.now.nets.points < 2 ^ 16) }
+{
     let _point_count = p.nets.points();
     let mut linked = Partition::singles(alloc, p.nets.count() as u16)?;
     link_resistors(&mut linked, &p.nets, p.resistors.as_slice());
     link_diodes(&mut linked, &p.nets, p.diodes.as_slice());
-    let labels = first_nets(alloc, &p.nets, &linked)?;
-    Partition::by_labels(alloc, labels.as_slice())
+    Ok(linked)
 }
 
 /// Makes the nets at the ends of each resistor one class.

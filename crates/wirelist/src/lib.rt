@@ -16,7 +16,7 @@ mod parts;
 mod program;
 mod refusal;
 
-pub use cluster::clusters;
+pub use cluster::{cluster_count, clusters};
 pub use faults::{LeakFault, LeakFaults, PartFault, PartFaultKind, PartFaults};
 pub use outcome::{Outcome, Verdict};
 pub use parts::{Diode, Diodes, Names, Resistor, Resistors};

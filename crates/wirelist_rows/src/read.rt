@@ -1,26 +1,29 @@
 //! Reading by `csv`.
 
-ghost use Rattle.std.specs.Prelude.{◌≡◌, IfOk};
+ghost use Rattle.std.specs.Prelude.{◌≡◌, IfOk, map};
 ghost use Rattle.csv.specs.Reading.{default_config, records, strip_bom};
+ghost use Rattle.csv.specs.Records.{fields_of};
+ghost use Rattle.wirelist_rows.specs.Filled.{filled, rows_in};
 
-use crate::table::{Rows, Unread};
+use crate::table::{Row, Rows, Unread};
 use base::Memory;
-use csv::ReaderBuilder;
+use csv::{ByteRecord, ReaderBuilder};
 use std::alloc::Global;
 
-/// The records of a text.
+/// The rows of a text.
 pub fn rows(alloc: Global, bytes: &[u8]) -> Result<Rows, Memory>
-    ensures { IfOk result (λ r. r ≡ records default_config (strip_bom bytes.now)) }
+    ensures { IfOk result (λ r. r ≡ rows_in bytes.now) }
 {
-    match all_rows(alloc, bytes) {
-        Ok(rows) => Ok(rows),
-        Err(_) => Err(Memory),
-    }
+    let Ok(records) = all_records(alloc, bytes) else {
+        return Err(Memory);
+    };
+    let rows = all_filled(alloc, records)?;
+    Ok(Rows { rows })
 }
 
 /// The records, taken one after another.
-fn all_rows(alloc: Global, bytes: &[u8]) -> Result<Rows, Unread>
-    ensures { IfOk result (λ r. r ≡ records default_config (strip_bom bytes.now)) }
+fn all_records(alloc: Global, bytes: &[u8]) -> Result<Vec<ByteRecord>, Unread>
+    ensures { IfOk result (λ r. map fields_of r.items ≡ records default_config (strip_bom bytes.now)) }
 {
     let reader = ReaderBuilder::new()
         .has_headers(false)
@@ -31,5 +34,16 @@ fn all_rows(alloc: Global, bytes: &[u8]) -> Result<Rows, Unread>
         let taken = row?;
         records.push(taken)?;
     }
-    Ok(Rows { records })
+    Ok(records)
+}
+
+/// Each record without the empty fields at its end.
+fn all_filled(alloc: Global, records: Vec<ByteRecord>) -> Result<Vec<Row>, Memory>
+    ensures { IfOk result (λ rows. rows.items ≡ map filled (map fields_of records.items)) }
+{
+    let mut rows = Vec::new(alloc);
+    for record in records {
+        rows.push(Row::filled(record))?;
+    }
+    Ok(rows)
 }

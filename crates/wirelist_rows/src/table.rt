@@ -1,5 +1,9 @@
 //! What was read.
 
+ghost use Rattle.std.specs.Prelude.{◌≡◌, [], take, slice_index_or};
+ghost use Rattle.csv.specs.Records.{fields_of};
+ghost use Rattle.wirelist_rows.specs.Filled.{filled};
+
 use csv::{ByteRecord, Error};
 use std::alloc::AllocFailed;
 use std::marker::Model;
@@ -22,45 +26,112 @@ impl<T: Drop> From<AllocFailed<T>> for Unread {
     }
 }
 
-/// The records of a text, each the list of its fields.
+/// A row: the list of its fields, of which the last is not empty.
 #[derive(Drop)]
-pub struct Rows {
-    pub(crate) records: Vec<ByteRecord>,
+pub struct Row {
+    record: ByteRecord,
 }
 
-impl Model for Rows {
-    ghost use Rattle.std.specs.Prelude.{List, ℕ, map};
+impl Model for Row {
+    ghost use Rattle.std.specs.Prelude.{List, ℕ};
     ghost use Rattle.csv.specs.Records.{fields_of};
 
-    ghost Value = { List (List (List ℕ)) };
+    ghost Value = { List (List ℕ) };
 
-    ghost view = { λ a. map fields_of a.records.items };
+    ghost view = { λ a. fields_of a.record };
 }
 
-impl Rows {
-    ghost use Rattle.std.specs.Prelude.{◌≡◌, ◌<◌, [], length, option_map, slice_index_or};
-    ghost use Rattle.csv.specs.Records.{field_at};
+impl Row {
+    ghost use Rattle.std.specs.Prelude.{◌↔◌, IsTrue, length, option_map, slice_get};
 
-    /// How many records there are.
+    /// The record without the empty fields at its end.
+    pub(crate) fn filled(read: ByteRecord) -> Self
+        ensures { result ≡ filled (fields_of read) }
+    {
+        let count = filled_count(&read);
+        let mut kept = read;
+        kept.truncate(count);
+        Row { record: kept }
+    }
+
+    /// How many fields it has.
     pub fn len(&self) -> usize
         ensures { result ≡ length self.now }
     {
-        self.records.len()
+        self.record.len()
     }
 
-    /// How many fields a record has.
-    pub fn fields(&self, row: usize) -> usize
-        requires { row < length self.now }
-        ensures { result ≡ length (slice_index_or self.now row []) }
+    pub fn is_empty(&self) -> bool
+        ensures { IsTrue result ↔ (self.now ≡ []) }
     {
-        self.records[row].len()
+        self.record.is_empty()
     }
 
-    /// One field of a record.
-    pub fn get(&self, row: usize, field: usize) -> Option<&[u8]>
-        requires { row < length self.now }
-        ensures { option_map (λ f. f.now) result ≡ field_at (slice_index_or self.now row []) field }
+    /// The field with this number, counted from 0.
+    pub fn get(&self, place: usize) -> Option<&[u8]>
+        ensures { option_map (λ f. f.now) result ≡ slice_get self.now place }
     {
-        self.records[row].get(field)
+        self.record.get(place)
+    }
+
+    /// The field with this number, counted from 0, or nothing where there is none.
+    pub fn field(&self, place: usize) -> &[u8]
+        ensures { result.now ≡ slice_index_or self.now place [] }
+    {
+        field_of(&self.record, place)
+    }
+}
+
+/// One field of a record, or nothing where there is none.
+fn field_of(read: &ByteRecord, place: usize) -> &[u8]
+    ensures { result.now ≡ slice_index_or (fields_of read.now) place [] }
+{
+    match read.get(place) {
+        Some(field) => field,
+        None => b"",
+    }
+}
+
+/// How many fields are left without the empty ones at the end.
+fn filled_count(read: &ByteRecord) -> usize
+    ensures { take result (fields_of read.now) ≡ filled (fields_of read.now) }
+{
+    let mut count = 0;
+    for place in 0..read.len() {
+        if !field_of(read, place).is_empty() {
+            count = place + 1;
+        }
+    }
+    count
+}
+
+/// The rows of a text, in order.
+#[derive(Drop)]
+pub struct Rows {
+    pub(crate) rows: Vec<Row>,
+}
+
+impl Model for Rows {
+    ghost use Rattle.std.specs.Prelude.{List, ℕ};
+
+    ghost Value = { List (List (List ℕ)) };
+
+    ghost view = { λ a. a.rows.items };
+}
+
+impl Rows {
+    ghost use Rattle.std.specs.Prelude.{◌≡◌, length};
+
+    /// How many rows there are.
+    pub fn len(&self) -> usize
+        ensures { result ≡ length self.now }
+    {
+        self.rows.len()
+    }
+
+    pub fn as_slice(&self) -> &[Row]
+        ensures { result.now ≡ self.now }
+    {
+        self.rows.as_slice()
     }
 }

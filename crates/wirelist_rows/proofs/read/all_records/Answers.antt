@@ -6,7 +6,7 @@ use Rattle.csv.specs.Records.{fields_of}
 use Rattle.csv.specs.declared.parser.State.TheVariants as st
 use Rattle.csv.proofs.ReadFacts.{rows-end, rows-more}
 use Rattle.wirelist_rows.proofs.AllRecords.{AreRecords-records}
-use Rattle.wirelist_rows.proofs.read.all_rows.Goals as goal
+use Rattle.wirelist_rows.proofs.read.all_records.Goals as goal
 
 pub loop-row-init : goal.loop-row-init
 unfolding Reached

@@ -1,0 +1,95 @@
+-- The kinds of rows, and the fields of each: the table of the format.
+--     kind_word kind        the first field of a row
+--     shapes_of kind        what its further fields are
+--     kind_of word          the kind that the word names
+--     number field          the number that a field is
+--     fits shape field      whether a field is what it may be
+--     bad_fields kind row   the numbers of the fields that are missing, surplus, or not what they may be
+use Rattle.std.specs.Prelude.{ℕ, ◌+◌, ◌-◌, ◌%◌, Bool, true, false, ◌&&◌, ◌==◌, not, nat_le, bytes_eq, List, [], ◌∷◌, Option, None, Some, length, filter, find, map, codes, slice_get, slice_index_or}
+use Rattle.std.specs.List.{range_with_len}
+use Rattle.std.specs.Fmt.{decimal}
+use Rattle.std.specs.Str.Parse.{digits_value}
+use Rattle.partition.specs.Names.{is_name}
+use Rattle.wirelist_reader.specs.declared.kind.Kind.{Kind}
+use Rattle.wirelist_reader.specs.declared.kind.Kind.TheVariants.{Part, Points, Net, Resistor, Diode, Insulation, Withstand, Attempts}
+use Rattle.wirelist_reader.specs.declared.kind.Shape.{Shape}
+use Rattle.wirelist_reader.specs.declared.kind.Shape.TheVariants.{Name, Number, Volts, MorePoints, End}
+
+-- the first field of a row
+abbrev pub kind_word : Kind → List ℕ
+kind_word Part = codes "part"
+kind_word Points = codes "points"
+kind_word Net = codes "net"
+kind_word Resistor = codes "resistor"
+kind_word Diode = codes "diode"
+kind_word Insulation = codes "insulation"
+kind_word Withstand = codes "withstand"
+kind_word Attempts = codes "attempts"
+
+abbrev pub all_kinds : List Kind
+all_kinds = Part ∷ Points ∷ Net ∷ Resistor ∷ Diode ∷ Insulation ∷ Withstand ∷ Attempts ∷ []
+
+-- the kind that the word names
+abbrev pub kind_of : List ℕ → Option Kind
+kind_of word = find (λ kind. bytes_eq word (kind_word kind)) all_kinds
+
+-- a point, as a word; whether the matrix has it is asked later
+abbrev pub point : Shape
+point = Number 0 65535
+
+abbrev pub milliohms : Shape
+milliohms = Number 10001 1000000000000
+
+abbrev pub millivolts : Shape
+millivolts = Number 1 5000
+
+-- the fields after the first
+abbrev pub shapes_of : Kind → List Shape
+shapes_of Part = Name ∷ Number 1 999999 ∷ []
+shapes_of Points = Number 1 1024 ∷ []
+shapes_of Net = Name ∷ []
+shapes_of Resistor = Name ∷ point ∷ point ∷ milliohms ∷ milliohms ∷ []
+shapes_of Diode = Name ∷ point ∷ point ∷ millivolts ∷ millivolts ∷ []
+shapes_of Insulation = Volts 50 1000 ∷ Number 1 1200 ∷ Number 1 100000 ∷ []
+shapes_of Withstand = Volts 50 2000 ∷ Number 1 600 ∷ Number 1 10000000 ∷ []
+shapes_of Attempts = Number 1 9 ∷ []
+
+-- what may follow these
+abbrev pub shape_after : Kind → Shape
+shape_after Part = End
+shape_after Points = End
+shape_after Net = MorePoints
+shape_after Resistor = End
+shape_after Diode = End
+shape_after Insulation = End
+shape_after Withstand = End
+shape_after Attempts = End
+
+-- the shape of the field with this place, the first field having place 0
+abbrev pub shape_at : Kind → ℕ → Shape
+shape_at kind place = slice_index_or (shapes_of kind) (place - 1) (shape_after kind)
+
+-- the number that a field is
+abbrev pub number : List ℕ → ℕ
+number field = digits_value 10 field
+
+-- the field is a number's decimal text, and the number lies in the range
+abbrev pub is_number : ℕ → ℕ → List ℕ → Bool
+is_number low most field = bytes_eq field (decimal (number field)) && (nat_le low (number field) && nat_le (number field) most)
+
+-- whether a field, or the row's end, is what may stand there
+abbrev pub fits : Shape → Option (List ℕ) → Bool
+fits Name None = false
+fits Name (Some field) = is_name field
+fits (Number low most) None = false
+fits (Number low most) (Some field) = is_number low most field
+fits (Volts low most) None = false
+fits (Volts low most) (Some field) = is_number low most field && (number field % 50 == 0)
+fits MorePoints None = true
+fits MorePoints (Some field) = is_number 0 65535 field
+fits End None = true
+fits End (Some field) = false
+
+-- The places of the fields that are missing, surplus, or not what they may be. A row that ends too early misses the field behind its last.
+abbrev pub bad_fields : Kind → List (List ℕ) → List ℕ
+bad_fields kind row = filter (λ place. not (fits (shape_at kind place) (slice_get row place))) (range_with_len 1 (length row))

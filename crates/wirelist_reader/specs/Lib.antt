@@ -1,0 +1,5 @@
+pub mod Kinds
+pub mod Rows
+pub mod Refusals
+pub mod Seen
+pub mod Reading

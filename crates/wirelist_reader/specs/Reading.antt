@@ -1,0 +1,23 @@
+-- What is known of rows without a fault.
+use Rattle.std.specs.Prelude.{◌≡◌, ◌<◌, ◌≤◌, ℕ, List, [], All, IsTrue}
+use Rattle.partition.specs.NetTable.{NetTable}
+use Rattle.wirelist_reader.specs.Kinds.{bad_fields}
+use Rattle.wirelist_reader.specs.Rows.{field_at, first_of, is_kind, number_at, points_in}
+use Rattle.wirelist_reader.specs.declared.parts.PartEnds.{PartEnds}
+use Rattle.wirelist_reader.specs.declared.kind.Kind.{Kind}
+use Rattle.wirelist_reader.specs.declared.kind.Kind.TheVariants.{Part}
+
+-- each field of the row is what it may be in a row of its kind
+abbrev pub IsFit : List (List ℕ) → Type 0
+IsFit row = (kind : Kind) → IsTrue (is_kind kind row) → bad_fields kind row ≡ []
+
+-- a component that lies between points of the matrix
+abbrev pub LiesInside : NetTable → PartEnds → Type 0
+LiesInside t part = (part.a < t.points) × (part.b < t.points)
+
+-- the part and the number of points
+pub record AreHeads (rows : List (List (List ℕ))) (part : List ℕ) (revision points : ℕ) : Type 0 where
+  pub part_is : part ≡ field_at (first_of Part rows) 1
+  pub revision_is : revision ≡ number_at (first_of Part rows) 2
+  pub points_are : points ≡ points_in rows
+  pub some : 1 ≤ points

@@ -1,0 +1,158 @@
+//! What the rows say.
+
+ghost use Rattle.std.specs.Prelude.{◌≡◌, ◌≤◌, ◌<◌, ◌^◌, IsTrue, IfOk, IfSome, All, None, map, option_map, slice_get, drop};
+ghost use Rattle.wirelist_reader.specs.Kinds.{number};
+ghost use Rattle.wirelist_reader.specs.Reading.{IsFit};
+ghost use Rattle.wirelist_reader.specs.Rows.{attempts_of, diode_of, field_at, insulation_of, is_kind, listed_nets, number_at, resistor_of, rows_of_kind, withstand_of};
+ghost use Rattle.wirelist_reader.specs.declared.kind.Kind.TheVariants as kinds;
+
+use crate::field::{name_at, number_at, point_at};
+use crate::kind::{Kind, is_kind};
+use base::Memory;
+use partition::{NetLists, PointList};
+use std::alloc::Global;
+use wirelist::{Diode, Diodes, Insulation, Names, Resistor, Resistors, Withstand};
+use wirelist_rows::Row;
+
+/// The first row of a kind.
+pub(crate) fn first_of(rows: &[Row], kind: Kind) -> Option<&Row>
+    ensures { option_map (λ r. r.now) result ≡ slice_get (rows_of_kind kind rows.now) 0 }
+{
+    rows.iter().find(|row| is_kind(row, kind))
+}
+
+/// The points of each net, as listed.
+pub(crate) fn listed_nets(alloc: Global, rows: &[Row]) -> Result<NetLists, Memory>
+    requires { All IsFit rows.now }
+    ensures { IfOk result (λ lists. lists ≡ listed_nets rows.now) }
+{
+    let mut lists = NetLists::new(alloc);
+    for row in rows {
+        if is_kind(row, Kind::Net) {
+            lists.push(listed_points(alloc, row)?)?;
+        }
+    }
+    Ok(lists)
+}
+
+/// The points of a net, as listed.
+fn listed_points(alloc: Global, row: &Row) -> Result<PointList, Memory>
+    requires fit { IsFit row.now }
+    requires net { IsTrue (is_kind kinds.Net row.now) }
+    ensures { IfOk result (λ list. list ≡ map number (drop 2 row.now)) }
+{
+    let mut list = PointList::new(alloc);
+    for place in 2..row.len() {
+        list.push(point_at(row, place))?;
+    }
+    Ok(list)
+}
+
+/// The names of the nets.
+pub(crate) fn net_names(alloc: Global, rows: &[Row]) -> Result<Names, Memory>
+    requires { All IsFit rows.now }
+    ensures { IfOk result (λ names. names ≡ map (λ row. field_at row 1) (rows_of_kind kinds.Net rows.now)) }
+{
+    let mut names = Names::new(alloc);
+    for row in rows {
+        if is_kind(row, Kind::Net) {
+            names.push(name_at(row, 1))?;
+        }
+    }
+    Ok(names)
+}
+
+/// The resistors.
+pub(crate) fn resistors(alloc: Global, rows: &[Row]) -> Result<Resistors, Memory>
+    requires { All IsFit rows.now }
+    ensures { IfOk result (λ list. list ≡ map resistor_of (rows_of_kind kinds.Resistor rows.now)) }
+{
+    let mut list = Resistors::new(alloc);
+    for row in rows {
+        if is_kind(row, Kind::Resistor) {
+            list.push(resistor(row))?;
+        }
+    }
+    Ok(list)
+}
+
+/// The diodes.
+pub(crate) fn diodes(alloc: Global, rows: &[Row]) -> Result<Diodes, Memory>
+    requires { All IsFit rows.now }
+    ensures { IfOk result (λ list. list ≡ map diode_of (rows_of_kind kinds.Diode rows.now)) }
+{
+    let mut list = Diodes::new(alloc);
+    for row in rows {
+        if is_kind(row, Kind::Diode) {
+            list.push(diode(row))?;
+        }
+    }
+    Ok(list)
+}
+
+/// The resistor of a row.
+fn resistor(row: &Row) -> Resistor
+    requires fit { IsFit row.now }
+    requires kind { IsTrue (is_kind kinds.Resistor row.now) }
+    ensures { result ≡ resistor_of row.now }
+{
+    Resistor {
+        name: name_at(row, 1),
+        a: point_at(row, 2),
+        b: point_at(row, 3),
+        min: number_at(row, 4, 10_001, 1_000_000_000_000),
+        max: number_at(row, 5, 10_001, 1_000_000_000_000),
+    }
+}
+
+/// The diode of a row.
+fn diode(row: &Row) -> Diode
+    requires fit { IsFit row.now }
+    requires kind { IsTrue (is_kind kinds.Diode row.now) }
+    ensures { result ≡ diode_of row.now }
+{
+    Diode {
+        name: name_at(row, 1),
+        from: point_at(row, 2),
+        to: point_at(row, 3),
+        min: number_at(row, 4, 1, 5_000) as u32,
+        max: number_at(row, 5, 1, 5_000) as u32,
+    }
+}
+
+/// The test of insulation, where there is one.
+pub(crate) fn insulation(rows: &[Row]) -> Option<Insulation>
+    requires { All IsFit rows.now }
+    ensures { result ≡ option_map insulation_of (slice_get (rows_of_kind kinds.Insulation rows.now) 0) }
+{
+    let row = first_of(rows, Kind::Insulation)?;
+    Some(Insulation {
+        volts: number_at(row, 1, 50, 1_000) as u16,
+        ticks: number_at(row, 2, 1, 1_200) as u16,
+        megohms: number_at(row, 3, 1, 100_000) as u32,
+    })
+}
+
+/// The test of withstand, where there is one.
+pub(crate) fn withstand(rows: &[Row]) -> Option<Withstand>
+    requires { All IsFit rows.now }
+    ensures { result ≡ option_map withstand_of (slice_get (rows_of_kind kinds.Withstand rows.now) 0) }
+{
+    let row = first_of(rows, Kind::Withstand)?;
+    Some(Withstand {
+        volts: number_at(row, 1, 50, 2_000) as u16,
+        ticks: number_at(row, 2, 1, 600) as u16,
+        nanoamps: number_at(row, 3, 1, 10_000_000) as u32,
+    })
+}
+
+/// How often a unit may be tested.
+pub(crate) fn attempts(rows: &[Row]) -> u8
+    requires { All IsFit rows.now }
+    ensures { result ≡ attempts_of (slice_get (rows_of_kind kinds.Attempts rows.now) 0) }
+{
+    match first_of(rows, Kind::Attempts) {
+        Some(row) => number_at(row, 1, 1, 9) as u8,
+        None => 3,
+    }
+}

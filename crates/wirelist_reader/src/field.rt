@@ -1,0 +1,82 @@
+//! The fields of a row.
+
+ghost use Rattle.std.specs.Prelude.{◌≡◌, ◌≤◌, ◌<◌, ◌^◌, ◌+◌, ◌-◌, ◌%◌, ◌==◌, ◌&&◌, length, IsTrue, option_map, slice_get};
+ghost use Rattle.partition.specs.Names.{IsName};
+ghost use Rattle.wirelist_reader.specs.Kinds.{number, is_number, fits as fits_shape, bad_fields};
+ghost use Rattle.wirelist_reader.specs.Rows.{field_at, number_at};
+
+use crate::kind::{Kind, Shape, shape_at};
+use lines::read_number;
+use partition::{Name, Point};
+use wirelist_rows::Row;
+
+/// The first place of a field that is missing, surplus, or not what it may be.
+pub(crate) fn bad_place(kind: Kind, row: &Row) -> Option<usize>
+    requires { length row.now < 2 ^ 64 - 1 }
+    ensures { result ≡ slice_get (bad_fields kind row.now) 0 }
+{
+    (1..row.len() + 1).find(|place| !fits(shape_at(kind, *place), row.get(*place)))
+}
+
+/// Whether a field, or the row's end, is what may stand there.
+fn fits(shape: Shape, field: Option<&[u8]>) -> bool
+    ensures { result ≡ fits_shape shape (option_map (λ f. f.now) field) }
+{
+    match (shape, field) {
+        (Shape::Name, Some(field)) => Name::read(field).is_some(),
+        (Shape::Number { low, most }, Some(field)) => is_number(field, low, most),
+        (Shape::Volts { low, most }, Some(field)) => are_volts(field, low, most),
+        (Shape::MorePoints, Some(field)) => is_number(field, 0, 65_535),
+        (Shape::MorePoints | Shape::End, None) => true,
+        _ => false,
+    }
+}
+
+/// Whether a field is a number of the range.
+pub(crate) fn is_number(field: &[u8], low: u64, most: u64) -> bool
+    ensures { result ≡ is_number low most field.now }
+{
+    read_number(field, low, most).is_some()
+}
+
+/// Whether a field is a multiple of 50 of the range.
+fn are_volts(field: &[u8], low: u64, most: u64) -> bool
+    ensures { result ≡ (is_number low most field.now && (number field.now % 50 == 0)) }
+{
+    match read_number(field, low, most) {
+        Some(volts) => volts % 50 == 0,
+        None => false,
+    }
+}
+
+/// The number that a field is.
+pub(crate) fn number_at(row: &Row, place: usize, low: u64, most: u64) -> u64
+    requires { IsTrue (is_number low most (field_at row.now place)) }
+    ensures number { result ≡ number_at row.now place }
+    ensures low { low ≤ result }
+    ensures most { result ≤ most }
+{
+    match read_number(row.field(place), low, most) {
+        Some(number) => number,
+        None => unreachable!(),
+    }
+}
+
+/// The point that a field is.
+pub(crate) fn point_at(row: &Row, place: usize) -> Point
+    requires { IsTrue (is_number 0 65535 (field_at row.now place)) }
+    ensures { result ≡ number_at row.now place }
+{
+    Point(number_at(row, place, 0, 65_535) as u16)
+}
+
+/// The name that a field is.
+pub(crate) fn name_at(row: &Row, place: usize) -> Name
+    requires { IsName (field_at row.now place) }
+    ensures { result ≡ field_at row.now place }
+{
+    match Name::read(row.field(place)) {
+        Some(name) => name,
+        None => unreachable!(),
+    }
+}

@@ -1,0 +1,218 @@
+//! The kinds of rows, and the fields of each.
+
+ghost use Rattle.std.specs.Prelude.{◌≡◌, ◌≤◌};
+ghost use Rattle.wirelist_reader.specs.Kinds.{kind_of, shape_at, milliohms, millivolts};
+ghost use Rattle.wirelist_reader.specs.Rows.{is_kind};
+ghost use Rattle.wirelist_reader.specs.Refusals.{is_single};
+ghost use Rattle.wirelist_reader.specs.declared.kind.Kind.TheVariants as kinds;
+
+use wirelist_rows::Row;
+
+/// A kind of row.
+#[derive(Clone, Copy, Debug, PartialEq, Eq)]
+pub enum Kind {
+    Part,
+    Points,
+    Net,
+    Resistor,
+    Diode,
+    Insulation,
+    Withstand,
+    Attempts,
+}
+
+/// What a field may be.
+#[derive(Clone, Copy, Debug, PartialEq, Eq)]
+pub enum Shape {
+    /// A name.
+    Name,
+    /// A number from `low` to `most`.
+    Number { low: u64, most: u64 },
+    /// A multiple of 50 from `low` to `most`.
+    Volts { low: u64, most: u64 },
+    /// A point, or the row's end.
+    MorePoints,
+    /// The row's end.
+    End,
+}
+
+/// A point, as a word.
+const POINT: Shape = Shape::Number {
+    low: 0,
+    most: 65_535,
+};
+
+/// The kind that a row's first field names.
+pub(crate) fn kind_of(word: &[u8]) -> Option<Kind>
+    ensures { result ≡ kind_of word.now }
+{
+    match word {
+        b"part" => Some(Kind::Part),
+        b"points" => Some(Kind::Points),
+        b"net" => Some(Kind::Net),
+        b"resistor" => Some(Kind::Resistor),
+        b"diode" => Some(Kind::Diode),
+        b"insulation" => Some(Kind::Insulation),
+        b"withstand" => Some(Kind::Withstand),
+        b"attempts" => Some(Kind::Attempts),
+        _ => None,
+    }
+}
+
+/// Whether a row is of this kind.
+pub(crate) fn is_kind(row: &Row, kind: Kind) -> bool
+    ensures { result ≡ is_kind kind row.now }
+{
+    kind_of(row.field(0)) == Some(kind)
+}
+
+/// Whether a file has one row of this kind at most.
+pub(crate) fn is_single(kind: Kind) -> bool
+    ensures { result ≡ is_single kind }
+{
+    match kind {
+        Kind::Net | Kind::Resistor | Kind::Diode => false,
+        Kind::Part | Kind::Points | Kind::Insulation | Kind::Withstand | Kind::Attempts => true,
+    }
+}
+
+/// What the field at a place may be, the first field having place 0.
+pub(crate) fn shape_at(kind: Kind, place: usize) -> Shape
+    requires { 1 ≤ place }
+    ensures { result ≡ shape_at kind place }
+{
+    match kind {
+        Kind::Part => part_shape(place),
+        Kind::Points => points_shape(place),
+        Kind::Net => net_shape(place),
+        Kind::Resistor => resistor_shape(place),
+        Kind::Diode => diode_shape(place),
+        Kind::Insulation => insulation_shape(place),
+        Kind::Withstand => withstand_shape(place),
+        Kind::Attempts => attempts_shape(place),
+    }
+}
+
+/// `part,NAME,REVISION`
+fn part_shape(place: usize) -> Shape
+    requires { 1 ≤ place }
+    ensures { result ≡ shape_at kinds.Part place }
+{
+    match place {
+        1 => Shape::Name,
+        2 => Shape::Number {
+            low: 1,
+            most: 999_999,
+        },
+        _ => Shape::End,
+    }
+}
+
+/// `points,N`
+fn points_shape(place: usize) -> Shape
+    requires { 1 ≤ place }
+    ensures { result ≡ shape_at kinds.Points place }
+{
+    match place {
+        1 => Shape::Number {
+            low: 1,
+            most: 1_024,
+        },
+        _ => Shape::End,
+    }
+}
+
+/// `net,NAME,P,P`
+fn net_shape(place: usize) -> Shape
+    requires { 1 ≤ place }
+    ensures { result ≡ shape_at kinds.Net place }
+{
+    match place {
+        1 => Shape::Name,
+        _ => Shape::MorePoints,
+    }
+}
+
+/// `resistor,NAME,A,B,MIN,MAX`, in milliohms.
+fn resistor_shape(place: usize) -> Shape
+    requires { 1 ≤ place }
+    ensures { result ≡ shape_at kinds.Resistor place }
+{
+    match place {
+        1 => Shape::Name,
+        2 | 3 => POINT,
+        4 | 5 => Shape::Number {
+            low: 10_001,
+            most: 1_000_000_000_000,
+        },
+        _ => Shape::End,
+    }
+}
+
+/// `diode,NAME,FROM,TO,MIN,MAX`, in millivolts.
+fn diode_shape(place: usize) -> Shape
+    requires { 1 ≤ place }
+    ensures { result ≡ shape_at kinds.Diode place }
+{
+    match place {
+        1 => Shape::Name,
+        2 | 3 => POINT,
+        4 | 5 => Shape::Number {
+            low: 1,
+            most: 5_000,
+        },
+        _ => Shape::End,
+    }
+}
+
+/// `insulation,VOLTS,TICKS,MEGOHMS`
+fn insulation_shape(place: usize) -> Shape
+    requires { 1 ≤ place }
+    ensures { result ≡ shape_at kinds.Insulation place }
+{
+    match place {
+        1 => Shape::Volts {
+            low: 50,
+            most: 1_000,
+        },
+        2 => Shape::Number {
+            low: 1,
+            most: 1_200,
+        },
+        3 => Shape::Number {
+            low: 1,
+            most: 100_000,
+        },
+        _ => Shape::End,
+    }
+}
+
+/// `withstand,VOLTS,TICKS,NANOAMPS`
+fn withstand_shape(place: usize) -> Shape
+    requires { 1 ≤ place }
+    ensures { result ≡ shape_at kinds.Withstand place }
+{
+    match place {
+        1 => Shape::Volts {
+            low: 50,
+            most: 2_000,
+        },
+        2 => Shape::Number { low: 1, most: 600 },
+        3 => Shape::Number {
+            low: 1,
+            most: 10_000_000,
+        },
+        _ => Shape::End,
+    }
+}
+
+/// `attempts,N`
+fn attempts_shape(place: usize) -> Shape
+    requires { 1 ≤ place }
+    ensures { result ≡ shape_at kinds.Attempts place }
+{
+    match place {
+        1 => Shape::Number { low: 1, most: 9 },
+        _ => Shape::End,
+    }
+}
