@@ -1,7 +1,8 @@
 //! Reading by `csv`.
 
-ghost use Rattle.std.specs.Prelude.{◌≡◌, IfOk};
+ghost use Rattle.std.specs.Prelude.{◌≡◌, IfOk, IfErr};
 ghost use Rattle.csv.specs.Reading.{default_config, records, strip_bom};
+ghost use Rattle.wirelist_rows.specs.Refusals.{IsOutside};
 
 use crate::table::{Rows, Unread};
 use base::Memory;
@@ -14,13 +15,15 @@ pub fn rows(alloc: Global, bytes: &[u8]) -> Result<Rows, Memory>
 {
     match all_rows(alloc, bytes) {
         Ok(rows) => Ok(rows),
-        Err(_) => Err(Memory),
+        // The reader underneath is a slice, which never fails.
+        Err(Unread::Csv(_) | Unread::Memory) => Err(Memory),
     }
 }
 
 /// The records, taken one after another.
 fn all_rows(alloc: Global, bytes: &[u8]) -> Result<Rows, Unread>
-    ensures { IfOk result (λ r. r ≡ records default_config (strip_bom bytes.now)) }
+    ensures rows { IfOk result (λ r. r ≡ records default_config (strip_bom bytes.now)) }
+    ensures refused { IfErr result IsOutside }
 {
     let reader = ReaderBuilder::new()
         .has_headers(false)
