@@ -17,6 +17,8 @@ mod parts;
 mod printing;
 mod program;
 mod refusal;
+#[cfg(test)]
+mod tests;
 
 pub use cluster::clusters;
 pub use faults::{LeakFault, LeakFaults, PartFault, PartFaultKind, PartFaults};

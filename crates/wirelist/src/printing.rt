@@ -30,13 +30,13 @@ pub fn print(alloc: Global, p: &Program) -> Result<Text, Memory>
 fn print_head(alloc: Global, text: &mut Text, p: &Program) -> Result<(), Memory>
     ensures { OnOk result (text.new ≡ text.old ++ (line_of (part_row p.now.part p.now.revision) ++ line_of (points_row p.now.nets.points))) }
 {
-    let part = format!(in alloc;
+    let rows = format!(in alloc;
         "part,{},{}\npoints,{}\n",
         p.part.text(),
         p.revision,
         p.nets.points()
     )?;
-    text.push_str(part.as_str())
+    text.push_str(rows.as_str())
 }
 
 /// Appends the rows of the named nets.
