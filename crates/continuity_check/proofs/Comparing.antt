@@ -87,13 +87,13 @@ Compares-met {old} {new} {sheet} c groups call = record {
 }
 
 pub Compares-open : {old new : RigState} {before after : SheetView} (c : Compared) → AreGroups old.points (c.head ∷ []) (c.point ∷ []) → Conducts old new (c.head ∷ []) (c.point ∷ []) (Ok false)
-    → after.lines ≡ before.lines ++ open_line c → after.opens ≡ before.opens + 1 → Compares old new before after (c ∷ [])
+    → after.lines ≡ before.lines ++ open_line c.name c.point → after.opens ≡ before.opens + 1 → Compares old new before after (c ∷ [])
 Compares-open {old} {new} {before} {after} c groups call lines opens = record {
   trials = record { compared = c; met = false } ∷ [];
   of_these = refl;
   trail = ap (λ (s : RigState). s.trail) call.ok;
   below = below-one old.points c _ groups;
   right = λ honest. right-one old.truth c false (call.truth honest);
-  lines = lines ∙ ap (λ (l : List ℕ). before.lines ++ l) (sym (append-nil (open_line c)));
+  lines = lines ∙ ap (λ (l : List ℕ). before.lines ++ l) (sym (append-nil (open_line c.name c.point)));
   opens = opens;
 }

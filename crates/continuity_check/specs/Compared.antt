@@ -40,11 +40,11 @@ abbrev pub reading_of : Trial → Event
 reading_of t = Reading (t.compared.head ∷ []) (t.compared.point ∷ []) t.met
 
 -- `open NET POINT`
-abbrev pub open_line : Compared → List ℕ
-open_line c = codes "open " ++ c.name ++ codes " " ++ decimal c.point ++ codes "\n"
+abbrev pub open_line : List ℕ → ℕ → List ℕ
+open_line name point = codes "open " ++ name ++ codes " " ++ decimal point ++ codes "\n"
 
 abbrev pub lines_of : Trial → List ℕ
-lines_of t = if t.met then [] else open_line t.compared
+lines_of t = if t.met then [] else open_line t.compared.name t.compared.point
 
 -- how many points are open
 abbrev pub open_count : List Trial → ℕ

@@ -30,7 +30,7 @@ fn check_point<R: Rig>(
     if seat.conducts(&[head], &[point])? {
         return Ok(());
     }
-    sheet.note_open(alloc, name, head, point)?;
+    sheet.note_open(alloc, name, point)?;
     Ok(())
 }
 

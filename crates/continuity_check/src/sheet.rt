@@ -35,15 +35,9 @@ impl Sheet {
     }
 
     /// Adds the line of a point that is open.
-    pub fn note_open(
-        &mut self,
-        alloc: Global,
-        name: &Name,
-        head: Point,
-        point: Point,
-    ) -> Result<(), Memory>
+    pub fn note_open(&mut self, alloc: Global, name: &Name, point: Point) -> Result<(), Memory>
         requires { self.old.opens < 2 ^ 64 - 1 }
-        ensures lines { OnOk result (self.new.lines ≡ self.old.lines ++ open_line (record { name = name.now; head = head; point = point })) }
+        ensures lines { OnOk result (self.new.lines ≡ self.old.lines ++ open_line name.now point) }
         ensures opens { OnOk result (self.new.opens ≡ self.old.opens + 1) }
         ensures err { OnErr result (self.new ≡ self.old) }
     {

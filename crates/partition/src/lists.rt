@@ -137,3 +137,26 @@ impl Model for NetNumbers {
 
     ghost view = { λ l. l.numbers.items };
 }
+
+impl NetNumbers {
+    ghost use Rattle.std.specs.Prelude.{◌≡◌, length};
+
+    /// The list of a `Vec`, which takes no memory.
+    pub fn from_vec(numbers: Vec<u32>) -> Self
+        ensures { result ≡ numbers.items }
+    {
+        NetNumbers { numbers }
+    }
+
+    pub fn as_slice(&self) -> &[u32]
+        ensures { result.now ≡ self.now }
+    {
+        self.numbers.as_slice()
+    }
+
+    pub fn len(&self) -> usize
+        ensures { result ≡ length self.now }
+    {
+        self.numbers.len()
+    }
+}

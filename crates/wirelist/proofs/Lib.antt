@@ -1,1 +1,3 @@
 pub mod ClusterLemmas
+pub mod PrintingLemmas
+pub mod EqualLemmas

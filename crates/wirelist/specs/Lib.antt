@@ -4,3 +4,4 @@ pub mod Clusters
 pub mod Laws
 pub mod Canonical
 pub mod Programs
+pub mod SamePrograms

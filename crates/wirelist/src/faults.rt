@@ -55,6 +55,13 @@ impl PartFaults {
         }
     }
 
+    /// The list of a `Vec`, which takes no memory.
+    pub fn from_vec(faults: Vec<PartFault>) -> Self
+        ensures { result ≡ faults.items }
+    {
+        PartFaults { faults }
+    }
+
     pub fn as_slice(&self) -> &[PartFault]
         ensures { result.now ≡ self.now }
     {
@@ -108,6 +115,13 @@ impl LeakFaults {
         LeakFaults {
             faults: Vec::new(alloc),
         }
+    }
+
+    /// The list of a `Vec`, which takes no memory.
+    pub fn from_vec(faults: Vec<LeakFault>) -> Self
+        ensures { result ≡ faults.items }
+    {
+        LeakFaults { faults }
     }
 
     pub fn as_slice(&self) -> &[LeakFault]

@@ -78,6 +78,13 @@ impl Names {
         Ok(())
     }
 
+    /// Whether the two lists are equal. Takes no memory.
+    pub fn equal(&self, other: &Names) -> bool
+        ensures { IsTrue result ↔ (other.now ≡ self.now) }
+    {
+        other.names.as_slice() == self.names.as_slice()
+    }
+
     /// The same list again.
     pub fn copy(&self, alloc: Global) -> Result<Self, Memory>
         ensures { IfOk result (λ list. list ≡ self.now) }
@@ -141,6 +148,13 @@ impl Resistors {
         Ok(())
     }
 
+    /// Whether the two lists are equal. Takes no memory.
+    pub fn equal(&self, other: &Resistors) -> bool
+        ensures { IsTrue result ↔ (other.now ≡ self.now) }
+    {
+        other.resistors.as_slice() == self.resistors.as_slice()
+    }
+
     /// The same list again.
     pub fn copy(&self, alloc: Global) -> Result<Self, Memory>
         ensures { IfOk result (λ list. list ≡ self.now) }
@@ -202,6 +216,13 @@ impl Diodes {
     {
         self.diodes.push(diode)?;
         Ok(())
+    }
+
+    /// Whether the two lists are equal. Takes no memory.
+    pub fn equal(&self, other: &Diodes) -> bool
+        ensures { IsTrue result ↔ (other.now ≡ self.now) }
+    {
+        other.diodes.as_slice() == self.diodes.as_slice()
     }
 
     /// The same list again.

@@ -37,7 +37,8 @@ pub struct Program {
 }
 
 impl Program {
-    ghost use Rattle.std.specs.Prelude.{◌≡◌, IfOk};
+    ghost use Rattle.std.specs.Prelude.{◌≡◌, ◌↔◌, IsTrue, IfOk};
+    ghost use Rattle.wirelist.specs.SamePrograms.{SameWiring, SameParts, SameTests};
 
     /// The same program again.
     pub fn copy(&self, alloc: Global) -> Result<Self, Memory>
@@ -58,5 +59,38 @@ impl Program {
             withstand: self.withstand,
             attempts: self.attempts,
         })
+    }
+
+    /// Whether all parts of the two programs are equal. Takes no memory.
+    pub fn equal(&self, other: &Program) -> bool
+        ensures { IsTrue result ↔ (other.now ≡ self.now) }
+    {
+        self.same_wiring(other) && self.same_parts(other) && self.same_tests(other)
+    }
+
+    /// Whether the part, the revision, the nets and their names are equal.
+    fn same_wiring(&self, other: &Program) -> bool
+        ensures { IsTrue result ↔ SameWiring other.now self.now }
+    {
+        other.part == self.part
+            && other.revision == self.revision
+            && self.nets.equal(&other.nets)
+            && self.names.equal(&other.names)
+    }
+
+    /// Whether the components are equal.
+    fn same_parts(&self, other: &Program) -> bool
+        ensures { IsTrue result ↔ SameParts other.now self.now }
+    {
+        self.resistors.equal(&other.resistors) && self.diodes.equal(&other.diodes)
+    }
+
+    /// Whether the tests at high voltage and the number of attempts are equal.
+    fn same_tests(&self, other: &Program) -> bool
+        ensures { IsTrue result ↔ SameTests other.now self.now }
+    {
+        other.insulation == self.insulation
+            && other.withstand == self.withstand
+            && other.attempts == self.attempts
     }
 }

@@ -1,29 +1,34 @@
 //! Reading by `csv`.
 
-ghost use Rattle.std.specs.Prelude.{◌≡◌, IfOk, map};
+ghost use Rattle.std.specs.Prelude.{◌≡◌, ◌≤◌, ◌+◌, IfOk, IfErr, length, map};
 ghost use Rattle.csv.specs.Reading.{default_config, records, strip_bom};
 ghost use Rattle.csv.specs.Records.{fields_of};
 ghost use Rattle.wirelist_rows.specs.Filled.{filled, rows_in};
+ghost use Rattle.wirelist_rows.specs.Refusals.{IsOutside};
 
 use crate::table::{Row, Rows, Unread};
 use base::Memory;
 use csv::{ByteRecord, ReaderBuilder};
 use std::alloc::Global;
 
-/// The rows of a text.
+/// The rows of a text, of which there are no more than it has bytes, but one.
 pub fn rows(alloc: Global, bytes: &[u8]) -> Result<Rows, Memory>
-    ensures { IfOk result (λ r. r ≡ rows_in bytes.now) }
+    ensures rows { IfOk result (λ r. r ≡ rows_in bytes.now) }
+    ensures few { IfOk result (λ r. length r ≤ length bytes.now + 1) }
 {
-    let Ok(records) = all_records(alloc, bytes) else {
-        return Err(Memory);
-    };
-    let rows = all_filled(alloc, records)?;
-    Ok(Rows { rows })
+    match all_records(alloc, bytes) {
+        Ok(records) => Ok(Rows {
+            rows: all_filled(alloc, records)?,
+        }),
+        // The reader underneath is a slice, which never fails.
+        Err(Unread::Csv(_) | Unread::Memory) => Err(Memory),
+    }
 }
 
 /// The records, taken one after another.
 fn all_records(alloc: Global, bytes: &[u8]) -> Result<Vec<ByteRecord>, Unread>
-    ensures { IfOk result (λ r. map fields_of r.items ≡ records default_config (strip_bom bytes.now)) }
+    ensures read { IfOk result (λ r. map fields_of r.items ≡ records default_config (strip_bom bytes.now)) }
+    ensures refused { IfErr result IsOutside }
 {
     let reader = ReaderBuilder::new()
         .has_headers(false)

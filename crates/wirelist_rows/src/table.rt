@@ -8,21 +8,34 @@ use csv::{ByteRecord, Error};
 use std::alloc::AllocFailed;
 use std::marker::Model;
 
-/// Reading stopped for want of memory.
-#[derive(Clone, Copy, Debug, PartialEq, Eq)]
-pub(crate) struct Unread;
+/// Why reading stopped.
+#[derive(Debug, Drop)]
+pub(crate) enum Unread {
+    /// `csv` refused.
+    Csv(Error),
+    /// Memory ran out.
+    Memory,
+}
 
-// A flexible reader of byte records over a slice has no other refusal: its contract rules out each kind
-// but want of memory and a fault of the reader underneath, which a slice never has.
 impl From<Error> for Unread {
-    fn from(_: Error) -> Self {
-        Unread
+    ghost use Rattle.std.specs.Prelude.{◌≡◌};
+    ghost use Rattle.wirelist_rows.specs.declared.table.Unread.TheVariants.{Csv};
+
+    ghost from_gives = { λ error unread. unread ≡ Csv error };
+
+    fn from(error: Error) -> Self {
+        Unread::Csv(error)
     }
 }
 
 impl<T: Drop> From<AllocFailed<T>> for Unread {
+    ghost use Rattle.std.specs.Prelude.{◌≡◌};
+    ghost use Rattle.wirelist_rows.specs.declared.table.Unread.TheVariants.{Memory};
+
+    ghost from_gives = { λ _ unread. unread ≡ Memory };
+
     fn from(_: AllocFailed<T>) -> Self {
-        Unread
+        Unread::Memory
     }
 }
 

@@ -25,6 +25,7 @@ loop-row-init c =
       strip_bom c.args.bytes.now,
       fr.source,
       (sym fr.state, refl),
+      rw b at fr.flexible,
     )
 
 pub loop-row-preserved : goal.loop-row-preserved
@@ -34,10 +35,10 @@ loop-row-preserved c =
     let good : is_ok c.push.result ≡ true = search rules in
     let items = rw good at c.push.ensures.items in
     let m = rows-more (λ (s : Bor (List ℕ)). Some s.now) c.loop-row.row-iterator.rdr c.next.new.self.rdr (fields_of c.in_ok-taken.taken) default_config st.StartRecord (strip_bom c.args.bytes.now) inv.4 (map fields_of c.loop-row.records.items) inv.3 inv.5 inv.6 s.0 in
-    (s.0.3 ∙ inv.0, inl s.1, s.2, s.0.2 ∙ inv.3, m.0, m.1, rw (items, map-append fields_of c.loop-row.records.items (c.in_ok-taken.taken ∷ [])) m.2)
+    (s.0.3 ∙ inv.0, inl s.1, s.2, s.0.2 ∙ inv.3, m.0, m.1, rw (items, map-append fields_of c.loop-row.records.items (c.in_ok-taken.taken ∷ [])) m.2, rw (c.in-Some.is, c.in_ok-taken.was) at (c.next.ensures.steps inv.2 inv.0).3 ∙ inv.7)
 
-pub returns : goal.returns
-returns c =
+pub returns-clause-read : goal.returns-clause-read
+returns-clause-read c =
     let inv = c.loop-row.invariant in
     let s = rw c.in-None.is at ((c.next.ensures.steps inv.2 inv.0).0 inv.1) in
     let ended = rows-end (λ (s : Bor (List ℕ)). Some s.now) c.loop-row.row-iterator.rdr c.next.new.self.rdr [] default_config inv.4 inv.3 inv.5 s in
