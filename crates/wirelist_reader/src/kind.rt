@@ -1,7 +1,7 @@
 //! The kinds of rows, and the fields of each.
 
 ghost use Rattle.std.specs.Prelude.{◌≡◌, ◌≤◌};
-ghost use Rattle.wirelist_reader.specs.Kinds.{kind_of, shape_at, milliohms, millivolts};
+ghost use Rattle.wirelist_reader.specs.Kinds.{kind_of, kind_word, shape_at};
 ghost use Rattle.wirelist_reader.specs.Rows.{is_kind};
 ghost use Rattle.wirelist_reader.specs.Refusals.{is_single};
 ghost use Rattle.wirelist_reader.specs.declared.kind.Kind.TheVariants as kinds;
@@ -42,28 +42,46 @@ const POINT: Shape = Shape::Number {
     most: 65_535,
 };
 
+/// The kinds, in the order of the format.
+const ALL_KINDS: [Kind; 8] = [
+    Kind::Part,
+    Kind::Points,
+    Kind::Net,
+    Kind::Resistor,
+    Kind::Diode,
+    Kind::Insulation,
+    Kind::Withstand,
+    Kind::Attempts,
+];
+
+/// The first field of a row.
+fn kind_word(kind: Kind) -> &'static [u8]
+    ensures { result.now ≡ kind_word kind }
+{
+    match kind {
+        Kind::Part => b"part",
+        Kind::Points => b"points",
+        Kind::Net => b"net",
+        Kind::Resistor => b"resistor",
+        Kind::Diode => b"diode",
+        Kind::Insulation => b"insulation",
+        Kind::Withstand => b"withstand",
+        Kind::Attempts => b"attempts",
+    }
+}
+
 /// The kind that a row's first field names.
 pub(crate) fn kind_of(word: &[u8]) -> Option<Kind>
     ensures { result ≡ kind_of word.now }
 {
-    match word {
-        b"part" => Some(Kind::Part),
-        b"points" => Some(Kind::Points),
-        b"net" => Some(Kind::Net),
-        b"resistor" => Some(Kind::Resistor),
-        b"diode" => Some(Kind::Diode),
-        b"insulation" => Some(Kind::Insulation),
-        b"withstand" => Some(Kind::Withstand),
-        b"attempts" => Some(Kind::Attempts),
-        _ => None,
-    }
+    ALL_KINDS.into_iter().find(|kind| word == kind_word(*kind))
 }
 
 /// Whether a row is of this kind.
 pub(crate) fn is_kind(row: &Row, kind: Kind) -> bool
     ensures { result ≡ is_kind kind row.now }
 {
-    kind_of(row.field(0)) == Some(kind)
+    row.field(0) == kind_word(kind)
 }
 
 /// Whether a file has one row of this kind at most.
