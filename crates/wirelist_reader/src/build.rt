@@ -18,7 +18,12 @@ use wirelist_rows::Row;
 pub(crate) fn first_of(rows: &[Row], kind: Kind) -> Option<&Row>
     ensures { option_map (λ r. r.now) result ≡ slice_get (rows_of_kind kind rows.now) 0 }
 {
-    rows.iter().find(|row| is_kind(row, kind))
+    for row in rows {
+        if is_kind(row, kind) {
+            return Some(row);
+        }
+    }
+    None
 }
 
 /// The points of each net, as listed.

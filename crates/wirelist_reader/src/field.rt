@@ -15,7 +15,12 @@ pub(crate) fn bad_place(kind: Kind, row: &Row) -> Option<usize>
     requires { length row.now < 2 ^ 64 - 1 }
     ensures { result ≡ slice_get (bad_fields kind row.now) 0 }
 {
-    (1..row.len() + 1).find(|place| !fits(shape_at(kind, *place), row.get(*place)))
+    for place in 1..row.len() + 1 {
+        if !fits(shape_at(kind, place), row.get(place)) {
+            return Some(place);
+        }
+    }
+    None
 }
 
 /// Whether a field, or the row's end, is what may stand there.

@@ -42,18 +42,6 @@ const POINT: Shape = Shape::Number {
     most: 65_535,
 };
 
-/// The kinds, in the order of the format.
-const ALL_KINDS: [Kind; 8] = [
-    Kind::Part,
-    Kind::Points,
-    Kind::Net,
-    Kind::Resistor,
-    Kind::Diode,
-    Kind::Insulation,
-    Kind::Withstand,
-    Kind::Attempts,
-];
-
 /// The first field of a row.
 fn kind_word(kind: Kind) -> &'static [u8]
     ensures { result.now ≡ kind_word kind }
@@ -74,7 +62,26 @@ fn kind_word(kind: Kind) -> &'static [u8]
 pub(crate) fn kind_of(word: &[u8]) -> Option<Kind>
     ensures { result ≡ kind_of word.now }
 {
-    ALL_KINDS.into_iter().find(|kind| word == kind_word(*kind))
+    let kind = if word == kind_word(Kind::Part) {
+        Kind::Part
+    } else if word == kind_word(Kind::Points) {
+        Kind::Points
+    } else if word == kind_word(Kind::Net) {
+        Kind::Net
+    } else if word == kind_word(Kind::Resistor) {
+        Kind::Resistor
+    } else if word == kind_word(Kind::Diode) {
+        Kind::Diode
+    } else if word == kind_word(Kind::Insulation) {
+        Kind::Insulation
+    } else if word == kind_word(Kind::Withstand) {
+        Kind::Withstand
+    } else if word == kind_word(Kind::Attempts) {
+        Kind::Attempts
+    } else {
+        return None;
+    };
+    Some(kind)
 }
 
 /// Whether a row is of this kind.
