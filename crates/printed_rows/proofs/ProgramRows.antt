@@ -1,10 +1,8 @@
 -- The rows of a program are rows of plain fields.
-use Rattle.std.proofs.Common.{ℕ, suc, ◌^◌, ◌<◌, ◌≤◌, List, [], ◌∷◌, map, All, Contains, get_or, Option, None, Some, IfSome, refl, arith}
+use Rattle.std.proofs.Common.{ℕ, suc, ◌^◌, ◌<◌, ◌≤◌, List, [], ◌∷◌, map, All, get_or, Option, None, Some, IfSome, refl, arith}
 use Rattle.std.specs.List.{AllByRecursion, zip}
 use Rattle.std.specs.Fmt.{decimal}
-use Rattle.std.proofs.lemmas.List.FromFn.{length-range_with_len, get_or-range_with_len}
 use Rattle.partition.specs.Names.{IsName}
-use Rattle.partition.specs.Classes.{points_below}
 use Rattle.partition.specs.NetTable.{NetTable, IsNetTable}
 use Rattle.wirelist.specs.Canonical.{rows_of, part_row, points_row, net_row, resistor_row, diode_row, insulation_rows, withstand_rows, attempts_row}
 use Rattle.wirelist.specs.Programs.{IsProgram, IsResistor, IsDiode, IsInsulation, IsWithstand}
@@ -13,7 +11,7 @@ use Rattle.wirelist.specs.declared.program.Insulation.{Insulation}
 use Rattle.wirelist.specs.declared.program.Withstand.{Withstand}
 use Rattle.wirelist.specs.declared.parts.Resistor.{Resistor}
 use Rattle.wirelist.specs.declared.parts.Diode.{Diode}
-use Rattle.printed_rows.proofs.Fields.{IsPlainField, IsPlainRow, all_append, name_field, decimal_field}
+use Rattle.printed_rows.proofs.Fields.{IsPlainField, IsPlainRow, all_append, name_field, decimal_field, contains_below}
 
 all_tail : {X : Type 0} (P : X → Type 0) (x : X) (xs : List X) → All P (x ∷ xs) → All P xs
 all_tail P x xs h k d l = h (suc k) d (omega arith)
@@ -38,12 +36,6 @@ nets_plain (name ∷ names) (net ∷ nets) n p = (
 )
 
 -- the points of a net are below 2^64
-contains_below : (n x : ℕ) → Contains (points_below n) x → x < n
-contains_below n x h =
-    let i = h.0 in
-    let inside : i < n = omega (arith, h.1, length-range_with_len 0 n) in
-    omega (arith, h.2, get_or-range_with_len 0 n i x inside)
-
 nets_below : (t : NetTable) → IsNetTable t → t.points ≤ 1024 → All (λ net. All (λ q. q < 2 ^ 64) net) t.named
 nets_below t ok few k d h j e l = let below = contains_below t.points (get_or (get_or t.named k d) j e) (ok.in_range k d h j e l) in omega arith
 
