@@ -1,15 +1,43 @@
 -- The first of a list that passes a test, and the first of some lists of faults.
-use Rattle.std.proofs.Common.{◌≡◌, ℕ, ◌+◌, ◌<◌, ◌≤◌, Bool, true, false, List, [], ◌∷◌, ◌++◌, length, get_or, take, Option, Some, None, slice_get, Result, Ok, Err, refl, sym, ◌∙◌, ap, arith, cond}
+use Rattle.std.proofs.Common.{◌≡◌, ℕ, ◌+◌, ◌<◌, ◌≤◌, Bool, true, false, List, [], ◌∷◌, ◌++◌, length, get_or, take, drop, Option, Some, None, slice_get, Result, Ok, Err, inl, inr, refl, sym, ◌∙◌, ap, arith, cond}
 use Rattle.std.specs.Prelude.{filter, map}
-use Rattle.std.proofs.lemmas.List.{filter-append, take_more, take_all}
+use Rattle.std.proofs.lemmas.List.{take_more, take_all, take-append-drop}
+use Rattle.std.proofs.lemmas.List.Elements.{filter-append}
 use Rattle.wirelist.specs.declared.refusal.WireRefusal.{WireRefusal}
 use Rattle.wirelist_reader.specs.Refusals.{Finds, FindsOrMemory}
 
-section {X : Type 0} (p : X → Bool) where
-
+module _ {X : Type 0} (p : X → Bool) where
   filter_one : (x : X) (b : Bool) → p x ≡ b → filter p (x ∷ []) ≡ cond b (x ∷ []) []
   filter_one x b e = rw e refl
 
   -- one more item
-  pub filter_more : (xs : List X) (i : ℕ) (d : X) → i < length xs → filter p (take (i + 1) xs) ≡ filter p (take i xs) ++ cond (p (get_or xs i d)) (get_or xs i d ∷ []) []
-  filter_more xs i d lt = ap (filter p) (take_more xs i d lt) ∙ filter-append p (take i xs) (get_or xs i d ∷ []) ∙ ap (λ (l : List X). filter p (take i xs) ++ l) (filter_one (get_or xs i d) (p (get_or xs i d)) refl)
+  pub filter_more : (xs : List X) (i : ℕ) (d : X) (b : Bool) → i < length xs → p (get_or xs i d) ≡ b → filter p (take (i + 1) xs) ≡ filter p (take i xs) ++ cond b (get_or xs i d ∷ []) []
+  filter_more xs i d b lt e =
+      ap (filter p) (take_more xs i d lt) ∙ filter-append p (take i xs) (get_or xs i d ∷ [])
+      ∙ ap (λ (l : List X). filter p (take i xs) ++ l) (filter_one (get_or xs i d) b e)
+
+  -- none of the first items passes
+  pub none_more : (xs : List X) (i : ℕ) (d : X) → i < length xs → filter p (take i xs) ≡ [] → p (get_or xs i d) ≡ false → filter p (take (i + 1) xs) ≡ []
+  none_more xs i d lt none e = filter_more xs i d false lt e ∙ rw none refl
+
+  -- none does, and the next one does
+  pub first_is : (xs : List X) (i : ℕ) (d : X) → i < length xs → filter p (take i xs) ≡ [] → p (get_or xs i d) ≡ true → slice_get (filter p xs) 0 ≡ Some (get_or xs i d)
+  first_is xs i d lt none e =
+      let parts = ap (filter p) (sym (take-append-drop (i + 1) xs)) ∙ filter-append p (take (i + 1) xs) (drop (i + 1) xs) in
+      let more = filter_more xs i d true lt e in
+      rw (parts, more, none) refl
+
+  -- none of all passes
+  pub none_of_all : (xs : List X) (i : ℕ) → length xs ≤ i → filter p (take i xs) ≡ [] → filter p xs ≡ []
+  none_of_all xs i le none = ap (filter p) (sym (take_all xs i le)) ∙ none
+
+-- the first fault of two lists is that of the first, or that of the second where the first has none
+pub first_in_left : (xs ys : List WireRefusal) (e : WireRefusal) → slice_get xs 0 ≡ Some e → slice_get (xs ++ ys) 0 ≡ Some e
+first_in_left [] ys e is = cc
+first_in_left (x ∷ xs) ys e is = is
+
+pub first_in_right : (xs ys : List WireRefusal) (e : WireRefusal) → xs ≡ [] → slice_get ys 0 ≡ Some e → slice_get (xs ++ ys) 0 ≡ Some e
+first_in_right xs ys e none is = rw none is
+
+pub none_in_both : (xs ys : List WireRefusal) → xs ≡ [] → ys ≡ [] → xs ++ ys ≡ []
+none_in_both xs ys none also = rw (none, also) refl

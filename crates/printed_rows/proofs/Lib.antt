@@ -1,0 +1,5 @@
+pub mod Fields
+pub mod ReadBack
+pub mod ProgramRows
+pub mod NetSizes
+pub mod Lengths
