@@ -1,3 +1,4 @@
 pub mod Numbers
 pub mod KindFacts
 pub mod Firsts
+pub mod PrintedLists
