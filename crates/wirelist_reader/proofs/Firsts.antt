@@ -29,7 +29,7 @@ module _ {X : Type 0} (p : X → Bool) where
 
   -- none of all passes
   pub none_of_all : (xs : List X) (i : ℕ) → length xs ≤ i → filter p (take i xs) ≡ [] → filter p xs ≡ []
-  none_of_all xs i le none = ap (filter p) (sym (take_all xs i le)) ∙ none
+  none_of_all xs i le none = ap (filter p) (sym (take_all i xs le)) ∙ none
 
 -- the first fault of two lists is that of the first, or that of the second where the first has none
 pub first_in_left : (xs ys : List WireRefusal) (e : WireRefusal) → slice_get xs 0 ≡ Some e → slice_get (xs ++ ys) 0 ≡ Some e

@@ -2,3 +2,4 @@ pub mod Numbers
 pub mod KindFacts
 pub mod Firsts
 pub mod PrintedLists
+pub mod BadPlaces

@@ -1,6 +1,6 @@
 -- Numbers of fields, and texts that are equal.
 use Rattle.std.proofs.Common.{◌≡◌, ℕ, ◌<◌, ◌≤◌, ◌^◌, Bool, true, false, List, refl, sym, ◌∙◌, ap, arith, leb}
-use Rattle.std.specs.Prelude.{◌&&◌, nat_le, bytes_eq}
+use Rattle.std.specs.Prelude.{◌&&◌, ◌==◌, ◌%◌, nat_le, bytes_eq}
 use Rattle.std.specs.Fmt.{decimal}
 use Rattle.std.proofs.lemmas.Bool.{leb-true, le-leb}
 use Rattle.std.proofs.lemmas.Fmt.{decimal_is_IsNumeral}
@@ -64,3 +64,17 @@ no_word_no_number field low most none = not_true (is_number low most field) (λ 
 -- a number of the range, as printed
 pub is_number_decimal : (low most n : ℕ) → most < 2 ^ 64 → low ≤ n → n ≤ most → is_number low most (decimal n) ≡ true
 is_number_decimal low most n small above below = word_is_number (decimal n) low most n small (record { printed = refl; not_below = above; not_above = below })
+
+-- a multiple of 50
+and_of_true : (a b : Bool) → a ≡ true → b ≡ (a && b)
+and_of_true a b e = rw e refl
+
+and_of_false : (a b : Bool) → a ≡ false → false ≡ (a && b)
+and_of_false a b e = rw e refl
+
+pub volts_by_word : (field : List ℕ) (low most n : ℕ) → most < 2 ^ 64 → IsNumberWord field low most n → (n % 50 == 0) ≡ (is_number low most field && (number field % 50 == 0))
+volts_by_word field low most n small word =
+    ap (λ (m : ℕ). m % 50 == 0) (sym (word_number field low most n small word)) ∙ and_of_true _ _ (word_is_number field low most n small word)
+
+pub no_volts : (field : List ℕ) (low most : ℕ) → ((n : ℕ) → IsNumberWord field low most n → ⊥) → false ≡ (is_number low most field && (number field % 50 == 0))
+no_volts field low most none = and_of_false _ _ (no_word_no_number field low most none)

@@ -15,7 +15,8 @@ pub(crate) fn bad_place(kind: Kind, row: &Row) -> Option<usize>
     requires { length row.now < 2 ^ 64 - 1 }
     ensures { result ≡ slice_get (bad_fields kind row.now) 0 }
 {
-    for place in 1..row.len() + 1 {
+    for i in 0..row.len() {
+        let place = i + 1;
         if !fits(shape_at(kind, place), row.get(place)) {
             return Some(place);
         }
@@ -25,7 +26,7 @@ pub(crate) fn bad_place(kind: Kind, row: &Row) -> Option<usize>
 
 /// Whether a field, or the row's end, is what may stand there.
 fn fits(shape: Shape, field: Option<&[u8]>) -> bool
-    ensures { result ≡ fits_shape shape (option_map (λ f. f.now) field) }
+    ensures { result ≡ fits_shape shape (option_map (λ f. f.now) field.entry) }
 {
     match (shape, field) {
         (Shape::Name, Some(field)) => Name::read(field).is_some(),
@@ -41,7 +42,10 @@ fn fits(shape: Shape, field: Option<&[u8]>) -> bool
 pub(crate) fn is_number(field: &[u8], low: u64, most: u64) -> bool
     ensures { result ≡ is_number low most field.now }
 {
-    read_number(field, low, most).is_some()
+    match read_number(field, low, most) {
+        Some(_) => true,
+        None => false,
+    }
 }
 
 /// Whether a field is a multiple of 50 of the range.
