@@ -3,3 +3,4 @@ pub mod KindFacts
 pub mod Firsts
 pub mod PrintedLists
 pub mod BadPlaces
+pub mod BuildFacts
