@@ -4,3 +4,7 @@ pub mod Firsts
 pub mod PrintedLists
 pub mod BadPlaces
 pub mod BuildFacts
+pub mod GivenLists
+pub mod GivenFields
+pub mod GivenRows
+pub mod GivenEnds
