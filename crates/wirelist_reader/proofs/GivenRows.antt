@@ -3,7 +3,6 @@ use Rattle.std.proofs.Common.{◌≡◌, ℕ, ◌+◌, ◌<◌, ◌≤◌, ◌&&
 use Rattle.std.specs.Prelude.{nat_le, nat_lt, bytes_eq}
 use Rattle.std.specs.List.{list_any}
 use Rattle.std.proofs.lemmas.Bool.{ne_eqb}
-use Rattle.std.proofs.lemmas.Slice.Eq.{bytes_eq-Decides}
 use Rattle.std.proofs.lemmas.List.Elements.{All-from_get_or}
 use Rattle.wirelist.specs.Ranges.{most_parts}
 use Rattle.wirelist.specs.declared.refusal.WireRefusal.{WireRefusal}
@@ -13,19 +12,11 @@ use Rattle.wirelist_reader.specs.Refusals.{fault_if, is_single, names_in, bad_fi
 use Rattle.wirelist_reader.specs.Reading.{IsFit}
 use Rattle.wirelist_reader.specs.declared.kind.Kind.{Kind}
 use Rattle.wirelist_reader.specs.declared.kind.Kind.TheVariants.{Part, Points, Net, Resistor, Diode, Insulation, Withstand, Attempts}
+use Rattle.wirelist_reader.proofs.KindFacts.{is_kind_of}
+use Rattle.wirelist_reader.proofs.Numbers.{bytes_equal}
 use Rattle.wirelist_reader.proofs.GivenLists.{append_none, map_none, flat_none, second_none, All-kept}
 
--- ---- the kind of a row
-
-named : (kind : Kind) → kind_of (kind_word kind) ≡ Some kind
-named Part = refl
-named Points = refl
-named Net = refl
-named Resistor = refl
-named Diode = refl
-named Insulation = refl
-named Withstand = refl
-named Attempts = refl
+-- ---- a row of some kind has fields
 
 word_some : (kind : Kind) → kind_word kind ≡ [] → ⊥
 word_some Part h = cc
@@ -37,15 +28,8 @@ word_some Insulation h = cc
 word_some Withstand h = cc
 word_some Attempts h = cc
 
-module _ (kind : Kind) (row : List (List ℕ)) (is : is_kind kind row ≡ true) where
-  pub word_is : field_at row 0 ≡ kind_word kind
-  word_is = (bytes_eq-Decides (field_at row 0) (kind_word kind)).0 is
-
-  pub kind_known : kind_of (field_at row 0) ≡ Some kind
-  kind_known = ap kind_of word_is ∙ named kind
-
 pub some_field : (kind : Kind) (row : List (List ℕ)) → is_kind kind row ≡ true → 1 ≤ length row
-some_field kind [] is = absurd (word_some kind (sym (word_is kind [] is)))
+some_field kind [] is = absurd (word_some kind (sym (bytes_equal [] (kind_word kind) is)))
 some_field kind (field ∷ row) is = omega arith
 
 -- ---- a row without a fault
@@ -84,7 +68,7 @@ module _ (rows : List (List (List ℕ))) (none : all_row_faults rows ≡ []) whe
       let size = some_field kind row is in
       let some : eqb (length row) 0 ≡ false = ne_eqb (length row) 0 (λ e. omega arith) in
       let faults : kind_faults (kind_of (field_at row 0)) before row (i + 1) ≡ [] = second_none (eqb (length row) 0) (text_faults row (i + 1)) (kind_faults (kind_of (field_at row 0)) before row (i + 1)) some here in
-      clean kind before row (i + 1) (subst (λ (k : Option Kind). kind_faults k before row (i + 1) ≡ []) (kind_known kind row is) faults)
+      clean kind before row (i + 1) (subst (λ (k : Option Kind). kind_faults k before row (i + 1) ≡ []) (is_kind_of row kind is) faults)
 
   -- each row is fit
   pub fit_of_faultless : All IsFit rows

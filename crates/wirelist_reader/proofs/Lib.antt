@@ -8,3 +8,7 @@ pub mod GivenLists
 pub mod GivenFields
 pub mod GivenRows
 pub mod GivenEnds
+pub mod GivenNets
+pub mod GivenPairs
+pub mod GivenNames
+pub mod GivenLinks
