@@ -12,3 +12,5 @@ pub mod GivenNets
 pub mod GivenPairs
 pub mod GivenNames
 pub mod GivenLinks
+pub mod PrintedRows
+pub mod PrintedNets
