@@ -14,3 +14,4 @@ pub mod GivenNames
 pub mod GivenLinks
 pub mod PrintedRows
 pub mod PrintedNets
+pub mod BuildLists

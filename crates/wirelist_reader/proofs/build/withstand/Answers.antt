@@ -1,0 +1,19 @@
+use Rattle.wirelist_reader.specs.declared.kind.Kind.TheVariants.{Withstand}
+use Rattle.wirelist_reader.proofs.BuildFacts.{withstand_numbers}
+use Rattle.wirelist_reader.proofs.BuildLists.{first_fits}
+use Rattle.wirelist_reader.proofs.build.withstand.Goals as goal
+
+pub number_at-requires : goal.number_at-requires
+number_at-requires c =
+    let first = first_fits Withstand c.args.rows.now c.in_ok-row.row.now c.requires c.in_ok-row.ensures in
+    (withstand_numbers c.in_ok-row.row.now first.1 first.0).0
+
+pub number_at-requires-2 : goal.number_at-requires-2
+number_at-requires-2 c =
+    let first = first_fits Withstand c.args.rows.now c.in_ok-row.row.now c.requires c.in_ok-row.ensures in
+    (withstand_numbers c.in_ok-row.row.now first.1 first.0).1
+
+pub number_at-requires-3 : goal.number_at-requires-3
+number_at-requires-3 c =
+    let first = first_fits Withstand c.args.rows.now c.in_ok-row.row.now c.requires c.in_ok-row.ensures in
+    (withstand_numbers c.in_ok-row.row.now first.1 first.0).2
