@@ -15,3 +15,5 @@ pub mod GivenLinks
 pub mod PrintedRows
 pub mod PrintedNets
 pub mod BuildLists
+pub mod PrintedKinds
+pub mod PrintedProgram
