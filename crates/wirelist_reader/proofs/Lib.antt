@@ -17,3 +17,4 @@ pub mod PrintedNets
 pub mod BuildLists
 pub mod PrintedKinds
 pub mod PrintedProgram
+pub mod SeenFacts

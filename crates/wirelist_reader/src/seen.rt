@@ -47,12 +47,10 @@ impl Seen {
         if !is_named(row) {
             return Ok(());
         }
-        self.add_name(alloc, row, number)?;
-        if !is_component(row) {
-            return Ok(());
+        match self.add_name(alloc, row, number) {
+            Ok(()) if is_component(row) => self.add_part(row, number),
+            named => named,
         }
-        check_window(row, number)?;
-        self.add_component(number)
     }
 
     /// Adds the name of a row, unless it was given before.
@@ -70,6 +68,20 @@ impl Seen {
         let text = String::from_str(alloc, name.text())?;
         self.names.insert(text)?;
         Ok(())
+    }
+
+    /// Counts a component whose window is one.
+    fn add_part(&mut self, row: &Row, number: u32) -> Result<(), WireRefusal>
+        requires fit { IsFit row.now }
+        requires component { IsTrue (is_component row.now) }
+        requires few { self.old.components < 2 ^ 32 }
+        ensures finds { Finds (window_faults row.now number ++ fault_if (nat_le most_parts self.old.components) (WireRefusal.TooManyParts number)) result }
+        ensures counted { OnOk result (self.new ≡ record self.old { components = self.old.components + 1 }) }
+    {
+        match check_window(row, number) {
+            Ok(()) => self.add_component(number),
+            found => found,
+        }
     }
 
     /// Counts one component more.
