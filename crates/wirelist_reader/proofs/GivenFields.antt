@@ -10,7 +10,7 @@ use Rattle.wirelist.specs.Programs.{IsWithin}
 use Rattle.wirelist_reader.specs.Kinds.{shape_at, fits, bad_fields, number}
 use Rattle.wirelist_reader.specs.Rows.{field_at, number_at}
 use Rattle.wirelist_reader.specs.declared.kind.Kind.{Kind}
-use Rattle.wirelist_reader.specs.declared.kind.Kind.TheVariants.{Part, Points, Net, Attempts}
+use Rattle.wirelist_reader.specs.declared.kind.Kind.TheVariants.{Part, Points, Net, Resistor, Diode, Insulation, Withstand, Attempts}
 use Rattle.wirelist_reader.specs.declared.kind.Shape.{Shape}
 use Rattle.wirelist_reader.specs.declared.kind.Shape.TheVariants.{Name, Number, Volts}
 use Rattle.wirelist_reader.proofs.GivenLists.{filter_none}
@@ -64,3 +64,37 @@ module _ (row : List (List ℕ)) (some : 1 ≤ length row) where
 
   pub attempts_fields : bad_fields Attempts row ≡ [] → IsWithin 1 9 (number_at row 1)
   attempts_fields none = number_within 1 9 (field_at row 1) (field_fits Attempts (Number 1 9) row 1 refl refl none (omega arith) some).1
+
+  pub resistor_fields : bad_fields Resistor row ≡ [] → IsName (field_at row 1) × (10001 ≤ number_at row 4) × (number_at row 5 ≤ 1000000000000)
+  resistor_fields none =
+      let one = field_fits Resistor Name row 1 refl refl none (omega arith) some in
+      let two = field_fits Resistor (Number 0 65535) row 2 refl refl none (omega arith) (let l = one.0 in omega arith) in
+      let three = field_fits Resistor (Number 0 65535) row 3 refl refl none (omega arith) (let l = two.0 in omega arith) in
+      let four = field_fits Resistor (Number 10001 1000000000000) row 4 refl refl none (omega arith) (let l = three.0 in omega arith) in
+      let five = field_fits Resistor (Number 10001 1000000000000) row 5 refl refl none (omega arith) (let l = four.0 in omega arith) in
+      (one.1, (number_within 10001 1000000000000 (field_at row 4) four.1).0, (number_within 10001 1000000000000 (field_at row 5) five.1).1)
+
+  pub diode_fields : bad_fields Diode row ≡ [] → IsName (field_at row 1) × (1 ≤ number_at row 4) × (number_at row 5 ≤ 5000)
+  diode_fields none =
+      let one = field_fits Diode Name row 1 refl refl none (omega arith) some in
+      let two = field_fits Diode (Number 0 65535) row 2 refl refl none (omega arith) (let l = one.0 in omega arith) in
+      let three = field_fits Diode (Number 0 65535) row 3 refl refl none (omega arith) (let l = two.0 in omega arith) in
+      let four = field_fits Diode (Number 1 5000) row 4 refl refl none (omega arith) (let l = three.0 in omega arith) in
+      let five = field_fits Diode (Number 1 5000) row 5 refl refl none (omega arith) (let l = four.0 in omega arith) in
+      (one.1, (number_within 1 5000 (field_at row 4) four.1).0, (number_within 1 5000 (field_at row 5) five.1).1)
+
+  pub insulation_fields : bad_fields Insulation row ≡ [] → IsWithin 50 1000 (number_at row 1) × (number_at row 1 % 50 ≡ 0) × IsWithin 1 1200 (number_at row 2) × IsWithin 1 100000 (number_at row 3)
+  insulation_fields none =
+      let one = field_fits Insulation (Volts 50 1000) row 1 refl refl none (omega arith) some in
+      let two = field_fits Insulation (Number 1 1200) row 2 refl refl none (omega arith) (let l = one.0 in omega arith) in
+      let three = field_fits Insulation (Number 1 100000) row 3 refl refl none (omega arith) (let l = two.0 in omega arith) in
+      let volts = volts_within 50 1000 (field_at row 1) one.1 in
+      (volts.0, volts.1, number_within 1 1200 (field_at row 2) two.1, number_within 1 100000 (field_at row 3) three.1)
+
+  pub withstand_fields : bad_fields Withstand row ≡ [] → IsWithin 50 2000 (number_at row 1) × (number_at row 1 % 50 ≡ 0) × IsWithin 1 600 (number_at row 2) × IsWithin 1 10000000 (number_at row 3)
+  withstand_fields none =
+      let one = field_fits Withstand (Volts 50 2000) row 1 refl refl none (omega arith) some in
+      let two = field_fits Withstand (Number 1 600) row 2 refl refl none (omega arith) (let l = one.0 in omega arith) in
+      let three = field_fits Withstand (Number 1 10000000) row 3 refl refl none (omega arith) (let l = two.0 in omega arith) in
+      let volts = volts_within 50 2000 (field_at row 1) one.1 in
+      (volts.0, volts.1, number_within 1 600 (field_at row 2) two.1, number_within 1 10000000 (field_at row 3) three.1)

@@ -1,6 +1,5 @@
 -- The links of the components, where no component has a fault.
-use Rattle.std.proofs.Common.{◌≡◌, ◌≢◌, ◌⊎◌, inl, inr, ℕ, ◌+◌, ◌<◌, ◌≤◌, ◌&&◌, ◌||◌, Bool, true, false, List, [], ◌∷◌, ◌++◌, length, get_or, refl, sym, ◌∙◌, ap, subst, arith, eqb, take, map, filter, All, AllPairs}
-use Rattle.std.specs.List.{list_any}
+use Rattle.std.proofs.Common.{◌≡◌, ◌≢◌, inl, inr, ℕ, ◌+◌, ◌<◌, true, List, [], ◌++◌, length, get_or, sym, ◌∙◌, ap, subst, arith, take, map, filter, All, AllPairs}
 use Rattle.std.proofs.lemmas.Bool.{eq-eqb, and_from, or_left, or_right, both_ways}
 use Rattle.std.proofs.lemmas.List.{map-append, get_or_default}
 use Rattle.std.proofs.lemmas.List.Elements.{All-from_get_or, All-map}

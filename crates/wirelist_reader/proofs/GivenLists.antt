@@ -1,5 +1,5 @@
 -- Lists of faults that are empty, and what a filter keeps.
-use Rattle.std.proofs.Common.{◌≡◌, ℕ, zero, suc, ◌<◌, Bool, true, false, cond, List, [], ◌∷◌, ◌++◌, length, get_or, map, filter, refl, ◌∙◌, ap, arith, All, inl, inr}
+use Rattle.std.proofs.Common.{◌≡◌, ◌&&◌, ℕ, zero, suc, ◌<◌, Bool, true, false, cond, List, [], ◌∷◌, ◌++◌, length, get_or, map, filter, refl, ◌∙◌, ap, arith, All, inl, inr}
 use Rattle.std.specs.List.{flat_map}
 use Rattle.std.proofs.lemmas.Bool.{cases_eq}
 use Rattle.std.proofs.lemmas.List.Elements.{All-filter, filter_passes, All-from_get_or}
@@ -36,6 +36,10 @@ pub filter_none : {X : Type 0} (t : X → Bool) (xs : List X) (i : ℕ) (d : X) 
 filter_none t [] i d h l = absurd (omega arith)
 filter_none t (x ∷ xs) zero d h l = (none_kept t x xs (t x) refl h).0
 filter_none t (x ∷ xs) (suc i) d h l = filter_none t xs i d (none_kept t x xs (t x) refl h).1 (omega arith)
+
+pub conjunct : (a b : Bool) → (a && b) ≡ false → a ≡ true → b ≡ false
+conjunct true b h e = h
+conjunct false b h e = cc
 
 -- ---- what a filter keeps
 

@@ -1,5 +1,5 @@
 -- The names of nets and components are apart, where no row has a fault.
-use Rattle.std.proofs.Common.{◌≡◌, ◌≢◌, ◌⊎◌, inl, inr, ℕ, suc, ◌+◌, ◌<◌, ◌≤◌, ◌&&◌, ◌||◌, Bool, true, false, List, [], ◌∷◌, ◌++◌, length, get_or, refl, sym, ◌∙◌, ap, subst, arith, take, map, filter, All, AllPairs}
+use Rattle.std.proofs.Common.{◌≡◌, ◌≢◌, inl, inr, ℕ, ◌<◌, true, false, List, [], ◌++◌, length, get_or, refl, sym, ◌∙◌, ap, subst, arith, take, map, filter, AllPairs}
 use Rattle.std.specs.Prelude.{bytes_eq}
 use Rattle.std.specs.List.{list_any}
 use Rattle.std.proofs.lemmas.Bool.{or_cases, both_ways}
@@ -15,6 +15,7 @@ use Rattle.wirelist_reader.specs.Rows.{row_at, field_at, is_kind, is_named, is_c
 use Rattle.wirelist_reader.specs.Refusals.{names_in, all_row_faults}
 use Rattle.wirelist_reader.specs.declared.kind.Kind.{Kind}
 use Rattle.wirelist_reader.specs.declared.kind.Kind.TheVariants.{Net, Resistor, Diode}
+use Rattle.wirelist_reader.proofs.GivenLists.{conjunct}
 use Rattle.wirelist_reader.proofs.GivenPairs.{take-In, any-In, AllPairs-append, AllPairs-map, pair-In, map-map}
 use Rattle.wirelist_reader.proofs.GivenRows.{clean_row}
 use Rattle.wirelist_reader.proofs.KindFacts.{named_of_kind}
@@ -38,10 +39,6 @@ kind_of_named row named =
 -- a row of one kind is of no other
 pub only_kind : (kind other : Kind) (row : List (List ℕ)) → bytes_eq (kind_word kind) (kind_word other) ≡ false → is_kind kind row ≡ true → is_kind other row ≡ false
 only_kind kind other row differ is = ap (λ (word : List ℕ). bytes_eq word (kind_word other)) (bytes_equal (field_at row 0) (kind_word kind) is) ∙ differ
-
-conjunct : (a b : Bool) → (a && b) ≡ false → a ≡ true → b ≡ false
-conjunct true b h e = h
-conjunct false b h e = cc
 
 module _ (rows : List (List (List ℕ))) (none : all_row_faults rows ≡ []) where
   apart_at : (i j : ℕ) → i < j → j < length rows → NamesApart (row_at rows i) (row_at rows j)

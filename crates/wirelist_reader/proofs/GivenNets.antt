@@ -1,17 +1,16 @@
 -- Lists of points without a fault give a table of nets.
-use Rattle.std.proofs.Common.{◌≡◌, ℕ, zero, suc, ◌+◌, ◌<◌, ◌≤◌, Bool, true, false, cond, List, [], ◌∷◌, ◌++◌, length, get_or, refl, sym, ◌∙◌, ap, subst, arith, ltb, take, map, filter, All, AllPairs, Contains}
+use Rattle.std.proofs.Common.{◌≡◌, ℕ, zero, suc, ◌+◌, ◌<◌, ◌≤◌, Bool, true, false, cond, List, [], ◌∷◌, length, get_or, refl, sym, ◌∙◌, subst, arith, ltb, take, map, All, Contains}
 use Rattle.std.specs.List.{flat_map, concat}
 use Rattle.std.specs.List.Sorted.{IsStrictlyIncreasing}
-use Rattle.std.proofs.lemmas.Bool.{ltb-true, cases_lt}
+use Rattle.std.proofs.lemmas.Bool.{ltb-true}
 use Rattle.std.proofs.lemmas.List.{get_or-map, get_or-take, length-take, length-map}
 use Rattle.std.proofs.lemmas.List.Elements.{All-from_get_or, All-map, All-filter, All-contains_itself, Contains-get_or}
 use Rattle.std.proofs.lemmas.List.FromFn.{length-range_with_len, get_or-range_with_len}
 use Rattle.std.proofs.lemmas.List.Kept.{IsStrictlyIncreasing-filter}
 use Rattle.partition.specs.Classes.{points_below, has}
-use Rattle.partition.specs.NetTable.{NetTable, IsNetTable, Disjoint}
+use Rattle.partition.specs.NetTable.{IsNetTable, Disjoint}
 use Rattle.partition.specs.NetFaults.{listed, listed_before, point_faults, net_faults, all_faults, ascending_net, table_of}
-use Rattle.partition.proofs.ClassLaws.{has-head}
-use Rattle.partition.proofs.Members.{In, has-In, In-has}
+use Rattle.partition.proofs.Members.{has-In, In-has}
 use Rattle.partition.proofs.NetLaws.{In-index, Contains-In}
 use Rattle.partition.proofs.KeptLemmas.{ascending-has, has-ascending}
 use Rattle.partition.proofs.ClaimLemmas.{has-append_left, has-append_right, net_some, net_not_empty}

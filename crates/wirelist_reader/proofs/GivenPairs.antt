@@ -1,14 +1,14 @@
 -- Pairs of elements, of lists that are joined, mapped and filtered.
-use Rattle.std.proofs.Common.{◌≡◌, ◌⊎◌, inl, inr, ℕ, zero, suc, ◌+◌, ◌<◌, ◌≤◌, ◌||◌, Bool, true, false, cond, List, [], ◌∷◌, ◌++◌, length, get_or, refl, sym, ◌∙◌, ap, subst, arith, take, map, filter, All, AllPairs}
+use Rattle.std.proofs.Common.{◌≡◌, inl, inr, ℕ, zero, suc, ◌+◌, ◌<◌, ◌≤◌, ◌||◌, Bool, true, false, cond, List, [], ◌∷◌, ◌++◌, length, get_or, refl, sym, ◌∙◌, ap, subst, arith, take, map, filter, All, AllPairs}
 use Rattle.std.specs.List.{list_any}
 use Rattle.std.proofs.lemmas.List.{take_all, get_or-take, length-take}
-use Rattle.std.proofs.lemmas.List.Elements.{All-append, All-map, filter_passes}
+use Rattle.std.proofs.lemmas.List.Elements.{All-append, All-map}
 use Rattle.std.proofs.lemmas.List.Filters.{length-filter_more}
 use Rattle.std.proofs.lemmas.List.Folds.{list_any_at}
 use Rattle.std.proofs.lemmas.List.FromFn.{fill_by_all}
 use Rattle.std.proofs.lemmas.List.Kept.{AllPairs-cons}
 use Rattle.partition.specs.Classes.{points_below}
-use Rattle.partition.proofs.Members.{In, In-filter_cases}
+use Rattle.partition.proofs.Members.{In}
 use Rattle.partition.proofs.NetLaws.{In-index, All-In}
 
 -- ---- members

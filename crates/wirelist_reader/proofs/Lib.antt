@@ -18,3 +18,5 @@ pub mod BuildLists
 pub mod PrintedKinds
 pub mod PrintedProgram
 pub mod SeenFacts
+pub mod GivenParts
+pub mod GivenProgram

@@ -1,0 +1,120 @@
+-- Rows without a fault give a program.
+use Rattle.std.proofs.Common.{◌≡◌, ℕ, ◌<◌, ◌≤◌, ◌&&◌, Bool, true, false, List, [], ◌∷◌, ◌++◌, length, get_or, Option, None, Some, sym, ◌∙◌, ap, arith, map, filter, All}
+use Rattle.std.specs.Prelude.{slice_get, option_map, is_some, IfSome, nat_lt}
+use Rattle.std.specs.List.{list_any}
+use Rattle.std.proofs.lemmas.Bool.{and_parts, not-false, ltb-false}
+use Rattle.std.proofs.lemmas.List.{length-map}
+use Rattle.std.proofs.lemmas.List.Elements.{All-map}
+use Rattle.std.proofs.lemmas.List.Folds.{Any-from_list_any}
+use Rattle.partition.specs.Names.{IsName}
+use Rattle.partition.specs.NetFaults.{all_faults, ascending_net}
+use Rattle.partition.proofs.Members.{In-filter}
+use Rattle.partition.proofs.NetLaws.{In-index}
+use Rattle.wirelist.specs.Clusters.{cluster_count}
+use Rattle.wirelist.specs.Programs.{IsWithin, IsInsulation, IsWithstand, IsProgram}
+use Rattle.wirelist.specs.Ranges.{most_clusters}
+use Rattle.wirelist.specs.declared.refusal.WireRefusal.TheVariants as wire
+use Rattle.wirelist_reader.specs.Rows.{field_at, is_kind, number_at, first_of, rows_of_kind, points_in, listed_nets, ends_of, insulation_of, withstand_of, attempts_of, program_of}
+use Rattle.wirelist_reader.specs.Refusals.{all_row_faults, head_faults, net_faults, part_faults, cluster_faults, rows_refusals}
+use Rattle.wirelist_reader.specs.declared.kind.Kind.TheVariants.{Part, Points, Net, Insulation, Withstand, Attempts}
+use Rattle.wirelist_reader.proofs.GivenLists.{append_none, map_none}
+use Rattle.wirelist_reader.proofs.GivenPairs.{index-In}
+use Rattle.wirelist_reader.proofs.GivenFields.{part_fields, points_fields, net_fields, insulation_fields, withstand_fields, attempts_fields}
+use Rattle.wirelist_reader.proofs.GivenRows.{no_fault, rows_clean}
+use Rattle.wirelist_reader.proofs.GivenNets.{table_of_faultless}
+use Rattle.wirelist_reader.proofs.GivenNames.{names_distinct}
+use Rattle.wirelist_reader.proofs.GivenParts.{components_of_faultless}
+
+-- ---- the first that a filter keeps
+
+some_kept : {X : Type 0} (t : X → Bool) (xs : List X) → list_any t xs ≡ true → 0 < length (filter t xs)
+some_kept t xs e =
+    let any = Any-from_list_any t xs e in
+    let k = any.0 in
+    let x = any.1 in
+    let place = In-index (get_or xs k x) (filter t xs) (In-filter t (get_or xs k x) xs (index-In k x xs any.2) (ap t any.3 ∙ any.4)) in
+    let inside = place.1 in
+    omega arith
+
+first_if_some : {A B : Type 0} (f : A → B) (P : B → Type 0) (xs : List A) → All (λ x. P (f x)) xs → IfSome (option_map f (slice_get xs 0)) P
+first_if_some f P [] h = tt
+first_if_some f P (x ∷ xs) h = h 0 x (omega arith)
+
+attempts_within : (rows : List (List (List ℕ))) → All (λ row. IsWithin 1 9 (number_at row 1)) rows → IsWithin 1 9 (attempts_of (slice_get rows 0))
+attempts_within [] h = (omega arith, omega arith)
+attempts_within (row ∷ rows) h = h 0 row (omega arith)
+
+if_some_and : {A : Type 0} (o : Option A) (b : Bool) (P : Type 0) → (is_some o && b) ≡ false → (b ≡ false → P) → IfSome o (λ _. P)
+if_some_and None b P h f = tt
+if_some_and (Some x) b P h f = f h
+
+-- ---- the rows of the kinds
+
+module _ (rows : List (List (List ℕ))) (none : all_row_faults rows ≡ []) (heads : head_faults rows ≡ []) where
+  both_heads : (list_any (is_kind Part) rows ≡ true) × (list_any (is_kind Points) rows ≡ true)
+  both_heads = and_parts _ _ (not-false _ (no_fault _ _ heads))
+
+  part_is : IsName (field_at (first_of Part rows) 1) × IsWithin 1 999999 (number_at (first_of Part rows) 2)
+  part_is =
+      rows_clean rows none Part (λ row. IsName (field_at row 1) × IsWithin 1 999999 (number_at row 2)) (λ before row some is known. part_fields row some known.fields)
+      0 [] (some_kept (is_kind Part) rows both_heads.0)
+
+  points_are : IsWithin 1 1024 (points_in rows)
+  points_are =
+      rows_clean rows none Points (λ row. IsWithin 1 1024 (number_at row 1)) (λ before row some is known. points_fields row some known.fields)
+      0 [] (some_kept (is_kind Points) rows both_heads.1)
+
+  nets_named : All (λ row. IsName (field_at row 1)) (rows_of_kind Net rows)
+  nets_named = rows_clean rows none Net (λ row. IsName (field_at row 1)) (λ before row some is known. net_fields row some known.fields)
+
+  one_for_each : length (map (λ row. field_at row 1) (rows_of_kind Net rows)) ≡ length (map (ascending_net (points_in rows)) (listed_nets rows))
+  one_for_each =
+      length-map (rows_of_kind Net rows) (λ (row : List (List ℕ)). field_at row 1)
+      ∙ sym (length-map (listed_nets rows) (ascending_net (points_in rows)) ∙ length-map (rows_of_kind Net rows) _)
+
+  insulation_rows : All (λ row. IsInsulation (insulation_of row)) (rows_of_kind Insulation rows)
+  insulation_rows =
+      rows_clean rows none Insulation (λ row. IsInsulation (insulation_of row))
+      (λ before row some is known.
+      let fields = insulation_fields row some known.fields in
+      record { volts = fields.0; steps = fields.1; ticks = fields.2; megohms = fields.3 })
+
+  withstand_rows : All (λ row. IsWithstand (withstand_of row)) (rows_of_kind Withstand rows)
+  withstand_rows =
+      rows_clean rows none Withstand (λ row. IsWithstand (withstand_of row))
+      (λ before row some is known.
+      let fields = withstand_fields row some known.fields in
+      record { volts = fields.0; steps = fields.1; ticks = fields.2; nanoamps = fields.3 })
+
+  attempts_rows : All (λ row. IsWithin 1 9 (number_at row 1)) (rows_of_kind Attempts rows)
+  attempts_rows = rows_clean rows none Attempts (λ row. IsWithin 1 9 (number_at row 1)) (λ before row some is known. attempts_fields row some known.fields)
+
+  pub program_of_faultless : net_faults rows ≡ [] → part_faults (program_of rows).nets (ends_of rows) ≡ [] → cluster_faults (program_of rows) ≡ [] → IsProgram (program_of rows)
+  program_of_faultless nets parts clusters =
+      let p = program_of rows in
+      record {
+        part = part_is.0;
+        revision = part_is.1;
+        points = points_are.1;
+        nets = table_of_faultless (points_in rows) (listed_nets rows) (map_none wire.Nets (all_faults (points_in rows) (listed_nets rows)) nets) points_are.0;
+        names = All-map IsName (λ row. field_at row 1) (rows_of_kind Net rows) nets_named;
+        one_each = one_for_each;
+        distinct = names_distinct rows none;
+        components = components_of_faultless rows none parts;
+        insulation = first_if_some insulation_of IsInsulation (rows_of_kind Insulation rows) insulation_rows;
+        withstand = first_if_some withstand_of IsWithstand (rows_of_kind Withstand rows) withstand_rows;
+        clusters =
+            if_some_and p.insulation (nat_lt most_clusters (cluster_count p)) (cluster_count p ≤ most_clusters) (no_fault _ _ clusters)
+            (λ few. ltb-false most_clusters (cluster_count p) few);
+        attempts = attempts_within (rows_of_kind Attempts rows) attempts_rows;
+      }
+
+-- rows that are not refused give a program
+pub faultless_is_program : (rows : List (List (List ℕ))) → rows_refusals rows ≡ [] → IsProgram (program_of rows)
+faultless_is_program rows none =
+    let nets_on = part_faults (program_of rows).nets (ends_of rows) ++ cluster_faults (program_of rows) in
+    let one = append_none (all_row_faults rows) (head_faults rows ++ (net_faults rows ++ nets_on)) none in
+    let two = append_none (head_faults rows) (net_faults rows ++ nets_on) one.1 in
+    let three = append_none (net_faults rows) nets_on two.1 in
+    let four = append_none (part_faults (program_of rows).nets (ends_of rows)) (cluster_faults (program_of rows)) three.1 in
+    program_of_faultless rows one.0 two.0 three.0 four.0 four.1
