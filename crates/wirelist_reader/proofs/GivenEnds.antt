@@ -27,6 +27,7 @@ guarded : {A : Type 0} (b : Bool) (xs ys : List A) (z : A) → cond b (xs ++ ys)
 guarded true xs ys z h = let parts = append_none xs ys h in (refl, parts.0, parts.1)
 guarded false xs ys z h = cc
 
+-- what a component has, below those before it, where it has no fault
 pub record IsSound (t : NetTable) (before : List PartEnds) (part : PartEnds) : Type 0 where
   pub inside : LiesInside t part
   pub across : net_at t part.a ≡ net_at t part.b → ⊥

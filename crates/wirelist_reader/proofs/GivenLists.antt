@@ -27,16 +27,6 @@ pub second_none : {A : Type 0} (b : Bool) (xs ys : List A) → b ≡ false → c
 second_none true xs ys e h = cc
 second_none false xs ys e h = (append_none xs ys h).1
 
-none_kept : {X : Type 0} (t : X → Bool) (x : X) (xs : List X) (b : Bool) → t x ≡ b → filter t (x ∷ xs) ≡ [] → (t x ≡ false) × (filter t xs ≡ [])
-none_kept t x xs true e h = absurd (let f : x ∷ filter t xs ≡ [] = rw e at h in cc)
-none_kept t x xs false e h = (e, rw e at h)
-
--- no element passes
-pub filter_none : {X : Type 0} (t : X → Bool) (xs : List X) (i : ℕ) (d : X) → filter t xs ≡ [] → i < length xs → t (get_or xs i d) ≡ false
-filter_none t [] i d h l = absurd (omega arith)
-filter_none t (x ∷ xs) zero d h l = (none_kept t x xs (t x) refl h).0
-filter_none t (x ∷ xs) (suc i) d h l = filter_none t xs i d (none_kept t x xs (t x) refl h).1 (omega arith)
-
 pub conjunct : (a b : Bool) → (a && b) ≡ false → a ≡ true → b ≡ false
 conjunct true b h e = h
 conjunct false b h e = cc

@@ -6,15 +6,15 @@ use Rattle.std.proofs.lemmas.List.{length-map}
 use Rattle.std.proofs.lemmas.List.Elements.{All-map}
 use Rattle.wirelist.specs.Programs.{IsResistor, IsDiode, AreComponents, SameLink}
 use Rattle.wirelist.specs.Ranges.{most_parts}
-use Rattle.wirelist_reader.specs.Rows.{row_at, is_kind, is_component, number_at, rows_of_kind, ends_of, resistor_of, diode_of, program_of}
+use Rattle.wirelist_reader.specs.Rows.{row_at, field_at, is_kind, is_component, number_at, rows_of_kind, ends_of, resistor_of, diode_of, program_of}
 use Rattle.wirelist_reader.specs.Refusals.{all_row_faults, part_faults}
 use Rattle.wirelist_reader.specs.declared.kind.Kind.{Kind}
 use Rattle.wirelist_reader.specs.declared.kind.Kind.TheVariants.{Resistor, Diode}
 use Rattle.wirelist_reader.proofs.KindFacts.{component_of_kind}
+use Rattle.wirelist_reader.proofs.BuildFacts.{resistor_name, resistor_window, diode_name, diode_window}
 use Rattle.wirelist_reader.proofs.GivenLists.{conjunct}
 use Rattle.wirelist_reader.proofs.GivenPairs.{few_pass, length-filter_or}
-use Rattle.wirelist_reader.proofs.GivenFields.{resistor_fields, diode_fields}
-use Rattle.wirelist_reader.proofs.GivenRows.{IsClean, clean_row, rows_clean}
+use Rattle.wirelist_reader.proofs.GivenRows.{IsClean, clean_row, rows_clean, within}
 use Rattle.wirelist_reader.proofs.GivenNames.{only_kind}
 use Rattle.wirelist_reader.proofs.GivenEnds.{inside_of_faultless}
 use Rattle.wirelist_reader.proofs.GivenLinks.{links_are, links_across, links_apart}
@@ -31,16 +31,26 @@ module _ (rows : List (List (List ℕ))) (none : all_row_faults rows ≡ []) whe
   all_resistors : All (λ (row : List (List ℕ)). IsResistor (resistor_of row)) (rows_of_kind Resistor rows)
   all_resistors =
       rows_clean rows none Resistor (λ (row : List (List ℕ)). IsResistor (resistor_of row))
-      (λ before row some is known.
-      let fields = resistor_fields row some known.fields in
-      record { name = fields.0; low = fields.1; window = window_of Resistor before row (component_of_kind row Resistor is) known; high = fields.2 })
+      (λ before row fit is known.
+      let numbers = resistor_window row fit is in
+      record {
+        name = resistor_name row fit is;
+        low = (within 10001 1000000000000 (field_at row 4) numbers.0).0;
+        window = window_of Resistor before row (component_of_kind row Resistor is) known;
+        high = (within 10001 1000000000000 (field_at row 5) numbers.1).1;
+      })
 
   all_diodes : All (λ (row : List (List ℕ)). IsDiode (diode_of row)) (rows_of_kind Diode rows)
   all_diodes =
       rows_clean rows none Diode (λ (row : List (List ℕ)). IsDiode (diode_of row))
-      (λ before row some is known.
-      let fields = diode_fields row some known.fields in
-      record { name = fields.0; low = fields.1; window = window_of Diode before row (component_of_kind row Diode is) known; high = fields.2 })
+      (λ before row fit is known.
+      let numbers = diode_window row fit is in
+      record {
+        name = diode_name row fit is;
+        low = (within 1 5000 (field_at row 4) numbers.0).0;
+        window = window_of Diode before row (component_of_kind row Diode is) known;
+        high = (within 1 5000 (field_at row 5) numbers.1).1;
+      })
 
   -- a component has fewer than the greatest number before it
   room : (i : ℕ) → i < length rows → is_component (row_at rows i) ≡ true → length (filter is_component (take i rows)) < most_parts

@@ -1,8 +1,8 @@
 -- Rows without a fault give a program.
-use Rattle.std.proofs.Common.{◌≡◌, ℕ, ◌<◌, ◌≤◌, ◌&&◌, Bool, true, false, List, [], ◌∷◌, ◌++◌, length, get_or, Option, None, Some, sym, ◌∙◌, ap, arith, map, filter, All}
+use Rattle.std.proofs.Common.{◌≡◌, ◌%◌, eqb, ℕ, ◌<◌, ◌≤◌, ◌&&◌, Bool, true, false, List, [], ◌∷◌, ◌++◌, length, get_or, Option, None, Some, sym, ◌∙◌, ap, arith, map, filter, All}
 use Rattle.std.specs.Prelude.{slice_get, option_map, is_some, IfSome, nat_lt}
 use Rattle.std.specs.List.{list_any}
-use Rattle.std.proofs.lemmas.Bool.{and_parts, not-false, ltb-false}
+use Rattle.std.proofs.lemmas.Bool.{and_parts, not-false, ltb-false, eqb-true}
 use Rattle.std.proofs.lemmas.List.{length-map}
 use Rattle.std.proofs.lemmas.List.Elements.{All-map}
 use Rattle.std.proofs.lemmas.List.Folds.{Any-from_list_any}
@@ -14,13 +14,15 @@ use Rattle.wirelist.specs.Clusters.{cluster_count}
 use Rattle.wirelist.specs.Programs.{IsWithin, IsInsulation, IsWithstand, IsProgram}
 use Rattle.wirelist.specs.Ranges.{most_clusters}
 use Rattle.wirelist.specs.declared.refusal.WireRefusal.TheVariants as wire
+use Rattle.wirelist_reader.specs.Kinds.{is_number}
 use Rattle.wirelist_reader.specs.Rows.{field_at, is_kind, number_at, first_of, rows_of_kind, points_in, listed_nets, ends_of, insulation_of, withstand_of, attempts_of, program_of}
 use Rattle.wirelist_reader.specs.Refusals.{all_row_faults, head_faults, net_faults, part_faults, cluster_faults, rows_refusals}
 use Rattle.wirelist_reader.specs.declared.kind.Kind.TheVariants.{Part, Points, Net, Insulation, Withstand, Attempts}
 use Rattle.wirelist_reader.proofs.GivenLists.{append_none, map_none}
 use Rattle.wirelist_reader.proofs.GivenPairs.{index-In}
-use Rattle.wirelist_reader.proofs.GivenFields.{part_fields, points_fields, net_fields, insulation_fields, withstand_fields, attempts_fields}
-use Rattle.wirelist_reader.proofs.GivenRows.{no_fault, rows_clean}
+use Rattle.wirelist_reader.proofs.Numbers.{and_right}
+use Rattle.wirelist_reader.proofs.BuildFacts.{part_name, part_revision, points_number, net_name, insulation_volts, insulation_numbers, withstand_volts, withstand_numbers, attempts_number}
+use Rattle.wirelist_reader.proofs.GivenRows.{no_fault, rows_clean, within}
 use Rattle.wirelist_reader.proofs.GivenNets.{table_of_faultless}
 use Rattle.wirelist_reader.proofs.GivenNames.{names_distinct}
 use Rattle.wirelist_reader.proofs.GivenParts.{components_of_faultless}
@@ -56,16 +58,16 @@ module _ (rows : List (List (List ℕ))) (none : all_row_faults rows ≡ []) (he
 
   part_is : IsName (field_at (first_of Part rows) 1) × IsWithin 1 999999 (number_at (first_of Part rows) 2)
   part_is =
-      rows_clean rows none Part (λ row. IsName (field_at row 1) × IsWithin 1 999999 (number_at row 2)) (λ before row some is known. part_fields row some known.fields)
+      rows_clean rows none Part (λ row. IsName (field_at row 1) × IsWithin 1 999999 (number_at row 2)) (λ before row fit is known. (part_name row fit is, within 1 999999 (field_at row 2) (part_revision row fit is)))
       0 [] (some_kept (is_kind Part) rows both_heads.0)
 
   points_are : IsWithin 1 1024 (points_in rows)
   points_are =
-      rows_clean rows none Points (λ row. IsWithin 1 1024 (number_at row 1)) (λ before row some is known. points_fields row some known.fields)
+      rows_clean rows none Points (λ row. IsWithin 1 1024 (number_at row 1)) (λ before row fit is known. within 1 1024 (field_at row 1) (points_number row fit is))
       0 [] (some_kept (is_kind Points) rows both_heads.1)
 
   nets_named : All (λ row. IsName (field_at row 1)) (rows_of_kind Net rows)
-  nets_named = rows_clean rows none Net (λ row. IsName (field_at row 1)) (λ before row some is known. net_fields row some known.fields)
+  nets_named = rows_clean rows none Net (λ row. IsName (field_at row 1)) (λ before row fit is known. net_name row fit is)
 
   one_for_each : length (map (λ row. field_at row 1) (rows_of_kind Net rows)) ≡ length (map (ascending_net (points_in rows)) (listed_nets rows))
   one_for_each =
@@ -75,19 +77,29 @@ module _ (rows : List (List (List ℕ))) (none : all_row_faults rows ≡ []) (he
   insulation_rows : All (λ row. IsInsulation (insulation_of row)) (rows_of_kind Insulation rows)
   insulation_rows =
       rows_clean rows none Insulation (λ row. IsInsulation (insulation_of row))
-      (λ before row some is known.
-      let fields = insulation_fields row some known.fields in
-      record { volts = fields.0; steps = fields.1; ticks = fields.2; megohms = fields.3 })
+      (λ before row fit is known.
+      let numbers = insulation_numbers row fit is in
+      record {
+        volts = within 50 1000 (field_at row 1) numbers.0;
+        steps = eqb-true (number_at row 1 % 50) 0 (and_right (is_number 50 1000 (field_at row 1)) (eqb (number_at row 1 % 50) 0) (insulation_volts row fit is));
+        ticks = within 1 1200 (field_at row 2) numbers.1;
+        megohms = within 1 100000 (field_at row 3) numbers.2;
+      })
 
   withstand_rows : All (λ row. IsWithstand (withstand_of row)) (rows_of_kind Withstand rows)
   withstand_rows =
       rows_clean rows none Withstand (λ row. IsWithstand (withstand_of row))
-      (λ before row some is known.
-      let fields = withstand_fields row some known.fields in
-      record { volts = fields.0; steps = fields.1; ticks = fields.2; nanoamps = fields.3 })
+      (λ before row fit is known.
+      let numbers = withstand_numbers row fit is in
+      record {
+        volts = within 50 2000 (field_at row 1) numbers.0;
+        steps = eqb-true (number_at row 1 % 50) 0 (and_right (is_number 50 2000 (field_at row 1)) (eqb (number_at row 1 % 50) 0) (withstand_volts row fit is));
+        ticks = within 1 600 (field_at row 2) numbers.1;
+        nanoamps = within 1 10000000 (field_at row 3) numbers.2;
+      })
 
   attempts_rows : All (λ row. IsWithin 1 9 (number_at row 1)) (rows_of_kind Attempts rows)
-  attempts_rows = rows_clean rows none Attempts (λ row. IsWithin 1 9 (number_at row 1)) (λ before row some is known. attempts_fields row some known.fields)
+  attempts_rows = rows_clean rows none Attempts (λ row. IsWithin 1 9 (number_at row 1)) (λ before row fit is known. within 1 9 (field_at row 1) (attempts_number row fit is))
 
   pub program_of_faultless : net_faults rows ≡ [] → part_faults (program_of rows).nets (ends_of rows) ≡ [] → cluster_faults (program_of rows) ≡ [] → IsProgram (program_of rows)
   program_of_faultless nets parts clusters =

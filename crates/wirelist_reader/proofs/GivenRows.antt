@@ -1,36 +1,26 @@
 -- What is known of each row where no row has a fault.
-use Rattle.std.proofs.Common.{◌≡◌, ℕ, ◌+◌, ◌<◌, ◌≤◌, ◌&&◌, Bool, true, false, List, [], ◌∷◌, ◌++◌, length, Option, Some, refl, sym, subst, arith, eqb, take, filter, All}
+use Rattle.std.proofs.Common.{◌≡◌, ℕ, ◌+◌, ◌<◌, ◌&&◌, Bool, true, false, List, [], ◌++◌, length, Option, Some, refl, subst, arith, eqb, take, filter, All}
 use Rattle.std.specs.Prelude.{nat_le, nat_lt, bytes_eq}
 use Rattle.std.specs.List.{list_any}
 use Rattle.std.proofs.lemmas.Bool.{ne_eqb}
-use Rattle.std.proofs.lemmas.List.Elements.{All-from_get_or}
+use Rattle.std.proofs.lemmas.List.Elements.{All-from_get_or, All-get_or}
+use Rattle.wirelist.specs.Programs.{IsWithin}
 use Rattle.wirelist.specs.Ranges.{most_parts}
 use Rattle.wirelist.specs.declared.refusal.WireRefusal.{WireRefusal}
-use Rattle.wirelist_reader.specs.Kinds.{kind_word, kind_of, bad_fields}
+use Rattle.wirelist_reader.specs.Kinds.{kind_of, bad_fields, number, is_number}
 use Rattle.wirelist_reader.specs.Rows.{row_at, field_at, is_kind, is_named, is_component, number_at, rows_of_kind}
 use Rattle.wirelist_reader.specs.Refusals.{fault_if, is_single, names_in, bad_field, text_faults, field_faults, single_faults, name_faults, window_faults, count_faults, late_faults, kind_faults, row_faults, all_row_faults}
 use Rattle.wirelist_reader.specs.Reading.{IsFit}
 use Rattle.wirelist_reader.specs.declared.kind.Kind.{Kind}
-use Rattle.wirelist_reader.specs.declared.kind.Kind.TheVariants.{Part, Points, Net, Resistor, Diode, Insulation, Withstand, Attempts}
 use Rattle.wirelist_reader.proofs.KindFacts.{is_kind_of}
-use Rattle.wirelist_reader.proofs.Numbers.{bytes_equal}
+use Rattle.wirelist_reader.proofs.Numbers.{number_is_word}
+use Rattle.wirelist_reader.proofs.BuildFacts.{kind_not_empty}
 use Rattle.wirelist_reader.proofs.GivenLists.{append_none, map_none, flat_none, second_none, All-kept}
 
--- ---- a row of some kind has fields
+-- ---- numbers
 
-word_some : (kind : Kind) → kind_word kind ≡ [] → ⊥
-word_some Part h = cc
-word_some Points h = cc
-word_some Net h = cc
-word_some Resistor h = cc
-word_some Diode h = cc
-word_some Insulation h = cc
-word_some Withstand h = cc
-word_some Attempts h = cc
-
-pub some_field : (kind : Kind) (row : List (List ℕ)) → is_kind kind row ≡ true → 1 ≤ length row
-some_field kind [] is = absurd (word_some kind (sym (bytes_equal [] (kind_word kind) is)))
-some_field kind (field ∷ row) is = omega arith
+pub within : (low most : ℕ) (field : List ℕ) → is_number low most field ≡ true → IsWithin low most (number field)
+within low most field is = let word = number_is_word field low most is in (word.not_below, word.not_above)
 
 -- ---- a row without a fault
 
@@ -38,6 +28,7 @@ pub no_fault : (condition : Bool) (fault : WireRefusal) → fault_if condition f
 no_fault true fault h = cc
 no_fault false fault h = refl
 
+-- what the row has, below the rows before it, where it has no fault
 pub record IsClean (kind : Kind) (before : List (List (List ℕ))) (row : List (List ℕ)) : Type 0 where
   pub single : (is_single kind && list_any (is_kind kind) before) ≡ false
   pub fields : bad_fields kind row ≡ []
@@ -65,7 +56,7 @@ module _ (rows : List (List (List ℕ))) (none : all_row_faults rows ≡ []) whe
       let row = row_at rows i in
       let before = take i rows in
       let here : row_faults rows i ≡ [] = flat_none (row_faults rows) (length rows) i none l in
-      let size = some_field kind row is in
+      let size = kind_not_empty kind row is in
       let some : eqb (length row) 0 ≡ false = ne_eqb (length row) 0 (λ e. omega arith) in
       let faults : kind_faults (kind_of (field_at row 0)) before row (i + 1) ≡ [] = second_none (eqb (length row) 0) (text_faults row (i + 1)) (kind_faults (kind_of (field_at row 0)) before row (i + 1)) some here in
       clean kind before row (i + 1) (subst (λ (k : Option Kind). kind_faults k before row (i + 1) ≡ []) (is_kind_of row kind is) faults)
@@ -75,5 +66,5 @@ module _ (rows : List (List (List ℕ))) (none : all_row_faults rows ≡ []) whe
   fit_of_faultless = All-from_get_or IsFit rows [] (λ i l kind is. let known = clean_row kind i l is in known.fields)
 
   -- what follows for the rows of a kind
-  pub rows_clean : (kind : Kind) (P : List (List ℕ) → Type 0) → ((before : List (List (List ℕ))) (row : List (List ℕ)) → 1 ≤ length row → is_kind kind row ≡ true → IsClean kind before row → P row) → All P (rows_of_kind kind rows)
-  rows_clean kind P f = All-kept (is_kind kind) P rows [] (λ i l is. f (take i rows) (row_at rows i) (some_field kind (row_at rows i) is) is (clean_row kind i l is))
+  pub rows_clean : (kind : Kind) (P : List (List ℕ) → Type 0) → ((before : List (List (List ℕ))) (row : List (List ℕ)) → IsFit row → is_kind kind row ≡ true → IsClean kind before row → P row) → All P (rows_of_kind kind rows)
+  rows_clean kind P f = All-kept (is_kind kind) P rows [] (λ i l is. f (take i rows) (row_at rows i) (All-get_or IsFit rows i [] l fit_of_faultless) is (clean_row kind i l is))

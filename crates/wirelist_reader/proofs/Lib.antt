@@ -5,7 +5,6 @@ pub mod PrintedLists
 pub mod BadPlaces
 pub mod BuildFacts
 pub mod GivenLists
-pub mod GivenFields
 pub mod GivenRows
 pub mod GivenEnds
 pub mod GivenNets
