@@ -19,3 +19,6 @@ pub mod PrintedProgram
 pub mod SeenFacts
 pub mod GivenParts
 pub mod GivenProgram
+pub mod PrintedWhole
+pub mod PrintedParts
+pub mod PrintedFaults

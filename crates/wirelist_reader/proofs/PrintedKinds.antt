@@ -1,5 +1,5 @@
 -- The rows of each kind among the rows of a program's text.
-use Rattle.std.proofs.Common.{◌≡◌, ℕ, ◌+◌, ◌≤◌, Bool, true, false, cond, List, [], ◌∷◌, ◌++◌, length, map, filter, zip, Option, None, Some, refl, ◌∙◌, ap, arith, length-append}
+use Rattle.std.proofs.Common.{◌≡◌, ℕ, ◌+◌, Bool, true, false, cond, List, [], ◌∷◌, ◌++◌, length, map, filter, zip, Option, None, Some, refl, ◌∙◌, ap, arith, length-append}
 use Rattle.std.proofs.lemmas.List.{append-nil, length-map}
 use Rattle.wirelist.specs.Canonical.{rows_of, part_row, points_row, net_row, resistor_row, diode_row, insulation_row, withstand_row, attempts_row, insulation_rows, withstand_rows}
 use Rattle.wirelist.specs.declared.program.Program.{Program}
@@ -8,7 +8,6 @@ use Rattle.wirelist.specs.declared.program.Withstand as withstand
 use Rattle.wirelist.specs.declared.parts.Resistor as resistor
 use Rattle.wirelist.specs.declared.parts.Diode as diode
 use Rattle.wirelist_reader.specs.Rows.{is_kind, is_named, is_component, rows_of_kind}
-use Rattle.wirelist_reader.specs.declared.kind.Kind.{Kind}
 use Rattle.wirelist_reader.specs.declared.kind.Kind.TheVariants.{Part, Points, Net, Resistor, Diode, Insulation, Withstand, Attempts}
 use Rattle.wirelist_reader.proofs.PrintedLists.{filter_all, filter_none, filter_six}
 

@@ -1,5 +1,5 @@
 -- The nets of a table, listed: they have no fault, and they give the table back.
-use Rattle.std.proofs.Common.{◌≡◌, inl, inr, ℕ, zero, suc, ◌+◌, ◌<◌, ◌≤◌, Bool, true, false, cond, List, [], ◌∷◌, ◌++◌, length, get_or, take, map, filter, flat_map, All, AllPairs, Contains, refl, sym, ◌∙◌, ap, subst, arith, lt-ltb, ne_eqb, add-zero}
+use Rattle.std.proofs.Common.{◌≡◌, inl, inr, ℕ, zero, suc, ◌+◌, ◌<◌, ◌≤◌, Bool, true, false, cond, List, [], ◌∷◌, ◌++◌, length, get_or, take, filter, flat_map, All, AllPairs, Contains, refl, sym, ◌∙◌, ap, subst, arith, lt-ltb, ne_eqb}
 use Rattle.std.specs.Prelude.{◌==◌, nat_lt}
 use Rattle.std.specs.List.{range_with_len, concat}
 use Rattle.std.specs.List.Sorted.{IsStrictlyIncreasing}
@@ -13,7 +13,7 @@ use Rattle.partition.specs.NetFaults.{all_faults, ascending_net, table_of}
 use Rattle.partition.specs.declared.nets.NetsRefusal.{NetsRefusal}
 use Rattle.partition.specs.declared.nets.NetsRefusal.TheVariants.{OutOfRange, Twice, EmptyNet}
 use Rattle.partition.proofs.ClassLaws.{has-head, has-above, range-has}
-use Rattle.partition.proofs.Members.{In, has-In, In-has, In-append_right}
+use Rattle.partition.proofs.Members.{has-In, In-has, In-append_right}
 use Rattle.partition.proofs.NetLaws.{In-index, All-In, Contains-In}
 use Rattle.partition.proofs.KeptLemmas.{filter-agree, In-points_below}
 use Rattle.partition.proofs.PickedLemmas.{increasing_below}

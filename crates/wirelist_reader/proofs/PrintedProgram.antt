@@ -1,5 +1,5 @@
 -- The rows of a program's text give the program back, and none has empty fields at its end.
-use Rattle.std.proofs.Common.{◌≡◌, ℕ, ◌+◌, ◌<◌, ◌≤◌, ◌^◌, Bool, List, [], ◌∷◌, ◌++◌, length, get_or, map, drop, zip, All, Option, None, Some, option_map, slice_get, IfSome, refl, sym, ◌∙◌, ap, arith}
+use Rattle.std.proofs.Common.{◌≡◌, ℕ, ◌<◌, ◌≤◌, List, [], ◌∷◌, ◌++◌, length, get_or, map, drop, zip, All, Option, None, Some, option_map, slice_get, IfSome, refl, sym, ◌∙◌, ap, arith}
 use Rattle.std.specs.Fmt.{decimal}
 use Rattle.std.proofs.lemmas.List.Elements.{All-cons, All-append, All-map, All-nil, All-tail}
 use Rattle.std.proofs.lemmas.List.Folds.{map_fixed}
@@ -18,7 +18,7 @@ use Rattle.wirelist.specs.declared.parts.Resistor as resistor
 use Rattle.wirelist.specs.declared.parts.Diode as diode
 use Rattle.wirelist_rows.specs.Filled.{filled}
 use Rattle.wirelist_reader.specs.Kinds.{number}
-use Rattle.wirelist_reader.specs.Rows.{field_at, number_at, rows_of_kind, listed_nets, points_in, program_of, resistor_of, diode_of, insulation_of, withstand_of, attempts_of}
+use Rattle.wirelist_reader.specs.Rows.{field_at, rows_of_kind, listed_nets, points_in, program_of, resistor_of, diode_of, insulation_of, withstand_of, attempts_of}
 use Rattle.wirelist_reader.specs.declared.kind.Kind.{Kind}
 use Rattle.wirelist_reader.specs.declared.kind.Kind.TheVariants.{Part, Points, Net, Resistor, Diode, Insulation, Withstand, Attempts}
 use Rattle.wirelist_reader.proofs.Numbers.{number_decimal}

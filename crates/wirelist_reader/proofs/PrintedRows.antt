@@ -1,6 +1,6 @@
 -- The rows of a program's text, each by itself: its fields are not empty, are printable, and are what they may be.
-use Rattle.std.proofs.Common.{◌≡◌, ℕ, zero, suc, ◌+◌, ◌-◌, ◌*◌, ◌<◌, ◌≤◌, ◌^◌, ◌%◌, Bool, true, false, not, List, [], ◌∷◌, length, map, All, Some, codes, refl, sym, ◌∙◌, ap, arith, eqb, le-leb, le-ltb, eq-eqb, cond}
-use Rattle.std.specs.Prelude.{◌&&◌, ◌==◌, nat_le, nat_lt, slice_get, slice_index_or, filter}
+use Rattle.std.proofs.Common.{◌≡◌, ℕ, zero, suc, ◌+◌, ◌-◌, ◌<◌, ◌≤◌, ◌^◌, ◌%◌, Bool, true, false, not, List, [], ◌∷◌, length, map, All, codes, refl, ◌∙◌, ap, arith, eqb, le-leb, le-ltb, eq-eqb, cond}
+use Rattle.std.specs.Prelude.{◌&&◌, ◌==◌, nat_le, nat_lt, slice_get, filter}
 use Rattle.std.specs.List.{AllByRecursion, list_all, range_with_len}
 use Rattle.std.specs.Fmt.{decimal}
 use Rattle.std.specs.Str.Parse.{AllDigits}
@@ -9,7 +9,7 @@ use Rattle.std.proofs.lemmas.List.Elements.{All-from_recursion, All-tail, All-co
 use Rattle.std.proofs.lemmas.Bool.Decides.{nat_tests}
 use Rattle.std.proofs.lemmas.Str.Parse.{digit_from_value}
 use Rattle.std.proofs.lemmas.Fmt.{decimal_is_IsNumeral}
-use Rattle.partition.specs.Names.{IsName, is_name, is_name_byte}
+use Rattle.partition.specs.Names.{IsName, is_name_byte}
 use Rattle.wirelist.specs.Canonical.{part_row, points_row, net_row, resistor_row, diode_row, insulation_row, withstand_row, attempts_row}
 use Rattle.wirelist.specs.Programs.{IsWithin, IsResistor, IsDiode, IsInsulation, IsWithstand}
 use Rattle.wirelist.specs.declared.program.Insulation as insulation
