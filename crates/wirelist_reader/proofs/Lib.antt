@@ -22,3 +22,4 @@ pub mod GivenProgram
 pub mod PrintedWhole
 pub mod PrintedParts
 pub mod PrintedFaults
+pub mod PartsLists

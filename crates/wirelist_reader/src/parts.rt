@@ -1,6 +1,6 @@
 //! The components' places.
 
-ghost use Rattle.std.specs.Prelude.{◌≡◌, ◌++◌, ◌<◌, ◌^◌, ◌-◌, ◌⊎◌, length, IfOk, OnOk, IsTrue, All};
+ghost use Rattle.std.specs.Prelude.{◌≡◌, ◌++◌, ◌<◌, ◌^◌, ◌-◌, ◌⊎◌, ◌&&◌, nat_lt, length, IfOk, OnOk, IsTrue, All};
 ghost use Rattle.std.specs.List.{list_any};
 ghost use Rattle.wirelist_reader.specs.Reading.{IsFit, LiesInside};
 ghost use Rattle.wirelist_reader.specs.Refusals.{Finds, component_faults, joins_same, part_faults};
@@ -67,19 +67,21 @@ pub(crate) fn check_parts(nets: &Nets, parts: &[PartEnds]) -> Result<(), WireRef
     ensures { Finds (part_faults nets.now parts.now) result }
 {
     for c in 0..parts.len() {
-        check_part(nets, &parts[..c], parts[c])?;
+        // The toolchain proves this form, and has no plan for a `?` in this loop.
+        if let Err(refusal) = check_part(nets, &parts[..c], &parts[c]) {
+            return Err(refusal);
+        }
     }
     Ok(())
 }
 
 /// Finds the first fault of a component, below those before it.
-fn check_part(nets: &Nets, before: &[PartEnds], part: PartEnds) -> Result<(), WireRefusal>
+fn check_part(nets: &Nets, before: &[PartEnds], part: &PartEnds) -> Result<(), WireRefusal>
     requires { All (LiesInside nets.now) before.now }
-    ensures finds { Finds (component_faults nets.now before.now part) result }
-    ensures inside { OnOk result (LiesInside nets.now part) }
+    ensures finds { Finds (component_faults nets.now before.now part.now) result }
+    ensures inside { OnOk result (LiesInside nets.now part.now) }
 {
-    let points = nets.points();
-    if part.a.0 >= points || part.b.0 >= points {
+    if !lies_inside(nets, part) {
         return Err(WireRefusal::PartPoint(part.record_number));
     }
     if nets.net_of(part.a) == nets.net_of(part.b) {
@@ -91,20 +93,28 @@ fn check_part(nets: &Nets, before: &[PartEnds], part: PartEnds) -> Result<(), Wi
     Ok(())
 }
 
-/// Whether one of the components lies between the same two nets.
-fn is_linked(nets: &Nets, before: &[PartEnds], part: PartEnds) -> bool
-    requires before { All (LiesInside nets.now) before.now }
-    requires part { LiesInside nets.now part }
-    ensures { result ≡ list_any (joins_same nets.now part) before.now }
+/// Whether a component lies between points of the matrix.
+fn lies_inside(nets: &Nets, part: &PartEnds) -> bool
+    ensures { result ≡ (nat_lt part.now.a nets.now.points && nat_lt part.now.b nets.now.points) }
 {
-    before.iter().any(|other| joins_same(nets, part, *other))
+    let points = nets.points();
+    part.a.0 < points && part.b.0 < points
+}
+
+/// Whether one of the components lies between the same two nets.
+fn is_linked(nets: &Nets, before: &[PartEnds], part: &PartEnds) -> bool
+    requires before { All (LiesInside nets.now) before.now }
+    requires part { LiesInside nets.now part.now }
+    ensures { result ≡ list_any (joins_same nets.now part.now) before.now }
+{
+    before.iter().any(|other| joins_same(nets, part, other))
 }
 
 /// Whether two components lie between the same two nets.
-fn joins_same(nets: &Nets, part: PartEnds, other: PartEnds) -> bool
-    requires part { LiesInside nets.now part }
-    requires other { LiesInside nets.now other }
-    ensures { result ≡ joins_same nets.now part other }
+fn joins_same(nets: &Nets, part: &PartEnds, other: &PartEnds) -> bool
+    requires part { LiesInside nets.now part.now }
+    requires other { LiesInside nets.now other.now }
+    ensures { result ≡ joins_same nets.now part.now other.now }
 {
     let (a, b) = (nets.net_of(part.a), nets.net_of(part.b));
     let (c, d) = (nets.net_of(other.a), nets.net_of(other.b));
