@@ -1,4 +1,3 @@
-use Rattle.std.proofs.Common.{arith}
 use Rattle.wirelist_reader.proofs.build.diode.Goals as goal
 use Rattle.wirelist_reader.proofs.BuildFacts.{diode_name, diode_point, diode_window}
 

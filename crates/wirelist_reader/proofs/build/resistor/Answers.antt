@@ -1,4 +1,3 @@
-use Rattle.std.proofs.Common.{arith}
 use Rattle.wirelist_reader.proofs.build.resistor.Goals as goal
 use Rattle.wirelist_reader.proofs.BuildFacts.{resistor_name, resistor_point, resistor_window}
 

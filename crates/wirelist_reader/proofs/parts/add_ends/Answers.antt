@@ -13,9 +13,9 @@ loop-i-preserved c =
     elim c.if-is_kind.branch [
       | then-is_kind+in_ok-push w ↦
           rw w.ends-is (
-            w.in_ok-push.ensures.items
-            ∙ ap (λ (part : PartEnds). ends ++ part ∷ []) w.ends_at.ensures
-            ∙ ends_more c.args.kind rows c.loop-i.i row old ends c.loop-i-test.true c.index-rows-i.is (sym c.is_kind.ensures ∙ w.if-is_kind.true) c.loop-i.invariant
+          w.in_ok-push.ensures.items
+          ∙ ap (λ (part : PartEnds). ends ++ part ∷ []) w.ends_at.ensures
+          ∙ ends_more c.args.kind rows c.loop-i.i row old ends c.loop-i-test.true c.index-rows-i.is (sym c.is_kind.ensures ∙ w.if-is_kind.true) c.loop-i.invariant
           )
       | else-is_kind w ↦
           rw w.ends-is (ends_same c.args.kind rows c.loop-i.i row old ends c.loop-i-test.true c.index-rows-i.is (sym c.is_kind.ensures ∙ w.if-is_kind.false) c.loop-i.invariant)
