@@ -50,12 +50,12 @@ six_same : {X : Type 0} (a b c d e f k l m n o q : List X) → a ≡ k → b ≡
 six_same a b c d e f k l m n o q ha hb hc hd he hf = cc
 
 -- what a test says of the rows of each kind
-pub record Tells (t : List (List ℕ) → Bool) (nets resistors diodes insulation' withstand' attempts : Bool) : Type 0 where
+pub record Tells (t : List (List ℕ) → Bool) (nets resistors diodes of_insulation of_withstand attempts : Bool) : Type 0 where
   pub on_nets : (z : List ℕ × List ℕ) → t (net_row z) ≡ nets
   pub on_resistors : (r : resistor.Resistor) → t (resistor_row r) ≡ resistors
   pub on_diodes : (d : diode.Diode) → t (diode_row d) ≡ diodes
-  pub on_insulation : (i : insulation.Insulation) → t (insulation_row i) ≡ insulation'
-  pub on_withstand : (w : withstand.Withstand) → t (withstand_row w) ≡ withstand'
+  pub on_insulation : (i : insulation.Insulation) → t (insulation_row i) ≡ of_insulation
+  pub on_withstand : (w : withstand.Withstand) → t (withstand_row w) ≡ of_withstand
   pub on_attempts : (n : ℕ) → t (attempts_row n) ≡ attempts
 
 pub filtered : (t : List (List ℕ) → Bool) (n r d i w a : Bool) → Tells t n r d i w a → (p : Program) →

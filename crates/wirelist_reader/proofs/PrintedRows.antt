@@ -112,13 +112,13 @@ word_plain Withstand = (omega arith, refl)
 word_plain Attempts = (omega arith, refl)
 
 pub part_printed : (name : List ℕ) (revision : ℕ) → IsName name → IsWithin 1 999999 revision → IsPrinted Part (part_row name revision)
-part_printed name revision is_name' within =
+part_printed name revision named within =
     let low = within.0 in
     let high = within.1 in
     record {
       word = refl;
-      plain = row_plain (part_row name revision) (word_plain Part, (name_plain name is_name', (decimal_plain revision (omega arith), tt)));
-      fit = row_fits Part (part_row name revision) (is_name', (is_number_decimal 1 999999 revision (omega arith) low high, (refl, tt)));
+      plain = row_plain (part_row name revision) (word_plain Part, (name_plain name named, (decimal_plain revision (omega arith), tt)));
+      fit = row_fits Part (part_row name revision) (named, (is_number_decimal 1 999999 revision (omega arith) low high, (refl, tt)));
       window = refl;
     }
 
@@ -251,7 +251,7 @@ later_place : (i : ℕ) → shape_at Net (suc (suc i)) ≡ MorePoints
 later_place i = let e : suc (suc i) - 1 ≡ suc i = omega arith in rw e refl
 
 pub net_printed : (net : List ℕ × List ℕ) → IsName net.0 → All (λ p. p < 65536) net.1 → IsPrinted Net (net_row net)
-net_printed net is_name' small =
+net_printed net named small =
     let row = net_row net in
     let test : ℕ → Bool = λ place. not (fits (shape_at Net place) (slice_get row place)) in
     let more : filter test (range_with_len 2 (suc (length (map decimal net.1)))) ≡ [] =
@@ -261,7 +261,7 @@ net_printed net is_name' small =
     record {
       word = refl;
       plain = All-cons IsPlain (codes "net") (net.0 ∷ map decimal net.1) (word_plain Net)
-          (All-cons IsPlain net.0 (map decimal net.1) (name_plain net.0 is_name') (points_plain net.1 small));
-      fit = ap (λ b. cond (not b) (1 ∷ filter test (range_with_len 2 (suc (length (map decimal net.1))))) (filter test (range_with_len 2 (suc (length (map decimal net.1)))))) is_name' ∙ more;
+          (All-cons IsPlain net.0 (map decimal net.1) (name_plain net.0 named) (points_plain net.1 small));
+      fit = ap (λ b. cond (not b) (1 ∷ filter test (range_with_len 2 (suc (length (map decimal net.1))))) (filter test (range_with_len 2 (suc (length (map decimal net.1)))))) named ∙ more;
       window = refl;
     }
