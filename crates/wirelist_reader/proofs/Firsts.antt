@@ -1,6 +1,7 @@
 -- The first of a list that passes a test, and the first of some lists of faults.
-use Rattle.std.proofs.Common.{◌≡◌, ℕ, ◌+◌, ◌<◌, ◌≤◌, Bool, true, false, List, [], ◌∷◌, ◌++◌, length, get_or, take, drop, Option, Some, None, slice_get, Result, Ok, Err, inl, inr, refl, sym, ◌∙◌, ap, arith, cond}
-use Rattle.std.specs.Prelude.{filter, map}
+use Rattle.std.proofs.Common.{◌≡◌, ℕ, zero, suc, ◌+◌, ◌<◌, ◌≤◌, Bool, true, false, List, [], ◌∷◌, ◌++◌, length, get_or, take, drop, Option, Some, None, slice_get, Result, Ok, Err, inl, inr, refl, sym, ◌∙◌, ap, arith, cond}
+use Rattle.std.specs.Prelude.{◌&&◌, filter, map}
+use Rattle.std.specs.List.{list_all}
 use Rattle.std.proofs.lemmas.List.{take_more, take_all, take-append-drop}
 use Rattle.std.proofs.lemmas.List.Elements.{filter-append}
 use Rattle.wirelist.specs.declared.refusal.WireRefusal.{WireRefusal}
@@ -41,3 +42,28 @@ first_in_right xs ys e none is = rw none is
 
 pub none_in_both : (xs ys : List WireRefusal) → xs ≡ [] → ys ≡ [] → xs ++ ys ≡ []
 none_in_both xs ys none also = rw (none, also) refl
+
+-- a test of all
+module _ {X : Type 0} (p : X → Bool) where
+  all_push : (xs : List X) (x : X) → list_all p xs ≡ true → p x ≡ true → list_all p (xs ++ x ∷ []) ≡ true
+  all_push [] x all here = rw here refl
+  all_push (y ∷ ys) x all here = go (p y) all
+    where
+      go : (b : Bool) → (b && list_all p ys) ≡ true → (b && list_all p (ys ++ x ∷ [])) ≡ true
+      go true rest = all_push ys x rest here
+      go false rest = rest
+
+  pub all_more : (xs : List X) (i : ℕ) (d : X) → i < length xs → list_all p (take i xs) ≡ true → p (get_or xs i d) ≡ true → list_all p (take (i + 1) xs) ≡ true
+  all_more xs i d lt all here = ap (list_all p) (take_more xs i d lt) ∙ all_push (take i xs) (get_or xs i d) all here
+
+  pub all_of_all : (xs : List X) (i : ℕ) → length xs ≤ i → list_all p (take i xs) ≡ true → list_all p xs ≡ true
+  all_of_all xs i le all = ap (list_all p) (sym (take_all i xs le)) ∙ all
+
+  and_false : (b : Bool) → (b && false) ≡ false
+  and_false true = refl
+  and_false false = refl
+
+  pub not_all : (xs : List X) (i : ℕ) (d : X) → i < length xs → p (get_or xs i d) ≡ false → list_all p xs ≡ false
+  not_all [] i d lt here = absurd (omega arith)
+  not_all (x ∷ xs) zero d lt here = rw here refl
+  not_all (x ∷ xs) (suc i) d lt here = ap (λ (b : Bool). p x && b) (not_all xs i d (omega arith) here) ∙ and_false (p x)

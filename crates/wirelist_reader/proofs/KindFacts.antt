@@ -1,5 +1,5 @@
 -- The kind of a row, and what it tells.
-use Rattle.std.proofs.Common.{◌≡◌, ℕ, Bool, true, false, List, [], ◌∷◌, Option, None, Some, refl, sym, ◌∙◌, ap}
+use Rattle.std.proofs.Common.{◌≡◌, ℕ, Bool, true, false, cond, List, [], ◌∷◌, Option, None, Some, refl, sym, ◌∙◌, ap}
 use Rattle.std.specs.Prelude.{bytes_eq, find}
 use Rattle.wirelist_reader.specs.Kinds.{kind_of, kind_word, all_kinds}
 use Rattle.wirelist_reader.specs.Rows.{field_at, is_kind, is_named, is_component}
@@ -11,11 +11,11 @@ use Rattle.wirelist_reader.proofs.Numbers.{bytes_equal, bytes_same}
 -- what is found passes the test
 pub found_passes : {X : Type 0} (p : X → Bool) (xs : List X) (x : X) → find p xs ≡ Some x → p x ≡ true
 found_passes p [] x e = cc
-found_passes p (y ∷ ys) x e = go (p y) refl e
+found_passes p (y ∷ ys) x e = go (p y) refl e (found_passes p ys x)
   where
-    go : (b : Bool) → p y ≡ b → cond b (Some y) (find p ys) ≡ Some x → p x ≡ true
-    go true t f = let same : y ≡ x = cc in ap p (sym same) ∙ t
-    go false t f = found_passes p ys x f
+    go : (b : Bool) → p y ≡ b → cond b (Some y) (find p ys) ≡ Some x → (find p ys ≡ Some x → p x ≡ true) → p x ≡ true
+    go true t f later = let same : y ≡ x = cc in ap p (sym same) ∙ t
+    go false t f later = later f
 
 -- a word that names a kind is that kind's word
 pub kind_word_of : (word : List ℕ) (kind : Kind) → kind_of word ≡ Some kind → word ≡ kind_word kind

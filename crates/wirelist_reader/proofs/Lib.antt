@@ -23,3 +23,5 @@ pub mod PrintedWhole
 pub mod PrintedParts
 pub mod PrintedFaults
 pub mod PartsLists
+pub mod NamedRows
+pub mod CheckFacts

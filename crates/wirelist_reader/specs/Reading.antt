@@ -1,7 +1,10 @@
 -- What is known of rows without a fault.
-use Rattle.std.specs.Prelude.{◌≡◌, ◌<◌, ◌≤◌, ℕ, List, [], All, IsTrue}
+use Rattle.std.specs.Prelude.{◌≡◌, ◌<◌, ◌≤◌, ℕ, List, [], ◌∷◌, ◌++◌, Option, None, Some, All, IsTrue}
 use Rattle.partition.specs.NetTable.{NetTable}
-use Rattle.wirelist_reader.specs.Kinds.{bad_fields}
+use Rattle.wirelist.specs.declared.refusal.WireRefusal.{WireRefusal}
+use Rattle.wirelist.specs.declared.refusal.WireRefusal.TheVariants as wire
+use Rattle.wirelist_reader.specs.Refusals.{text_faults, single_faults, field_faults}
+use Rattle.wirelist_reader.specs.Kinds.{bad_fields, kind_of}
 use Rattle.wirelist_reader.specs.Rows.{field_at, first_of, is_kind, number_at, points_in}
 use Rattle.wirelist_reader.specs.declared.parts.PartEnds.{PartEnds}
 use Rattle.wirelist_reader.specs.declared.kind.Kind.{Kind}
@@ -21,3 +24,12 @@ pub record AreHeads (rows : List (List (List ℕ))) (part : List ℕ) (revision 
   pub revision_is : revision ≡ number_at (first_of Part rows) 2
   pub points_are : points ≡ points_in rows
   pub some : 1 ≤ points
+
+-- the faults of a row of this kind that no name and no count of others makes
+abbrev pub kind_alone_faults : Option Kind → List (List (List ℕ)) → List (List ℕ) → ℕ → List WireRefusal
+kind_alone_faults None before row n = wire.UnknownKind n ∷ []
+kind_alone_faults (Some kind) before row n = single_faults kind before n ++ field_faults kind row n
+
+-- the faults of a row that no name and no count of others makes
+abbrev pub alone_faults : List (List (List ℕ)) → List (List ℕ) → ℕ → List WireRefusal
+alone_faults before row n = text_faults row n ++ kind_alone_faults (kind_of (field_at row 0)) before row n

@@ -1,10 +1,11 @@
 //! What is wrong with a row, below the rows before it.
 
 ghost use Rattle.std.specs.Prelude.{◌≡◌, ◌<◌, ◌+◌, ◌-◌, ◌^◌, length, take, OnOk, Some};
-ghost use Rattle.std.specs.List.{list_any};
+ghost use Rattle.std.specs.List.{list_all, list_any};
 ghost use Rattle.wirelist_reader.specs.Kinds.{kind_of, is_number};
-ghost use Rattle.wirelist_reader.specs.Rows.{field_at};
-ghost use Rattle.wirelist_reader.specs.Refusals.{Finds, FindsOrMemory, is_text, all_row_faults, row_faults, text_faults, single_faults, field_faults, bad_field};
+ghost use Rattle.wirelist_reader.specs.Rows.{field_at, is_kind};
+ghost use Rattle.wirelist_reader.specs.Refusals.{Finds, FindsOrMemory, is_text, all_row_faults, row_faults, bad_field};
+ghost use Rattle.wirelist_reader.specs.Reading.{IsFit, alone_faults};
 ghost use Rattle.wirelist_reader.specs.Seen.{IsSeen};
 
 use crate::field::{bad_place, is_number};
@@ -22,7 +23,9 @@ pub(crate) fn check_rows(alloc: Global, rows: &[Row]) -> Result<(), WireRefusal>
 {
     let mut seen = Seen::new(alloc);
     for i in 0..rows.len() {
-        check_row(alloc, &mut seen, rows, i)?;
+        if let Err(refusal) = check_row(alloc, &mut seen, rows, i) {
+            return Err(refusal);
+        }
     }
     Ok(())
 }
@@ -40,25 +43,43 @@ fn check_row(alloc: Global, seen: &mut Seen, rows: &[Row], i: usize) -> Result<(
         return Ok(());
     }
     let number = i as u32 + 1;
-    check_text(row, number)?;
+    match check_alone(row, &rows[..i], number) {
+        Ok(()) => seen.add(alloc, row, number),
+        refused => refused,
+    }
+}
+
+/// Finds the first fault of a row that no name and no count of others makes.
+fn check_alone(row: &Row, before: &[Row], number: u32) -> Result<(), WireRefusal>
+    requires { 0 < length row.now }
+    ensures finds { Finds (alone_faults before.now row.now number) result }
+    ensures fit { OnOk result (IsFit row.now) }
+{
+    if !is_text_row(row) {
+        return Err(WireRefusal::NotText(number));
+    }
     let Some(kind) = kind_of(row.field(0)) else {
         return Err(WireRefusal::UnknownKind(number));
     };
-    check_single(kind, &rows[..i], number)?;
-    check_fields(kind, row, number)?;
-    seen.add(alloc, row, number)
+    if is_single(kind) && has_kind(before, kind) {
+        return Err(WireRefusal::SecondRow(number));
+    }
+    match bad_place(kind, row) {
+        Some(place) => Err(bad_field(row, number, place)),
+        None => Ok(()),
+    }
 }
 
 /// Whether all fields are printable ASCII.
-fn check_text(row: &Row, number: u32) -> Result<(), WireRefusal>
-    ensures { Finds (text_faults row.now number) result }
+fn is_text_row(row: &Row) -> bool
+    ensures { result ≡ list_all is_text row.now }
 {
     for place in 0..row.len() {
         if !is_text(row.field(place)) {
-            return Err(WireRefusal::NotText(number));
+            return false;
         }
     }
-    Ok(())
+    true
 }
 
 /// Whether a field is printable ASCII.
@@ -68,32 +89,11 @@ fn is_text(field: &[u8]) -> bool
     field.iter().all(|byte| 32 <= *byte && *byte <= 126)
 }
 
-/// Whether the row is the first of its kind, where a file has one at most.
-fn check_single(kind: Kind, before: &[Row], number: u32) -> Result<(), WireRefusal>
-    ensures { Finds (single_faults kind before.now number) result }
-{
-    if is_single(kind) && has_kind(before, kind) {
-        Err(WireRefusal::SecondRow(number))
-    } else {
-        Ok(())
-    }
-}
-
 /// Whether there is a row of this kind.
 pub(crate) fn has_kind(rows: &[Row], kind: Kind) -> bool
     ensures { result ≡ list_any (is_kind kind) rows.now }
 {
     rows.iter().any(|row| is_kind(row, kind))
-}
-
-/// Whether each field is what it may be, and none is missing or surplus.
-fn check_fields(kind: Kind, row: &Row, number: u32) -> Result<(), WireRefusal>
-    ensures { Finds (field_faults kind row.now number) result }
-{
-    match bad_place(kind, row) {
-        Some(place) => Err(bad_field(row, number, place)),
-        None => Ok(()),
-    }
 }
 
 /// How a bad field is told.

@@ -1,6 +1,6 @@
 //! Reading by `csv`.
 
-ghost use Rattle.std.specs.Prelude.{◌≡◌, ◌≤◌, ◌+◌, IfOk, IfErr, length, map};
+ghost use Rattle.std.specs.Prelude.{◌≡◌, ◌≤◌, ◌+◌, IfOk, IfErr, All, length, map};
 ghost use Rattle.csv.specs.Reading.{default_config, records, strip_bom};
 ghost use Rattle.csv.specs.Records.{fields_of};
 ghost use Rattle.wirelist_rows.specs.Filled.{filled, rows_in};
@@ -11,10 +11,11 @@ use base::Memory;
 use csv::{ByteRecord, ReaderBuilder};
 use std::alloc::Global;
 
-/// The rows of a text, of which there are no more than it has bytes, but one.
+/// The rows of a text. Neither they nor the fields of one of them are more than it has bytes, but one.
 pub fn rows(alloc: Global, bytes: &[u8]) -> Result<Rows, Memory>
     ensures rows { IfOk result (λ r. r ≡ rows_in bytes.now) }
     ensures few { IfOk result (λ r. length r ≤ length bytes.now + 1) }
+    ensures short { IfOk result (All (λ row. length row ≤ length bytes.now + 1)) }
 {
     match all_records(alloc, bytes) {
         Ok(records) => Ok(Rows {
