@@ -47,11 +47,11 @@ none_in_both xs ys none also = rw (none, also) refl
 module _ {X : Type 0} (p : X → Bool) where
   all_push : (xs : List X) (x : X) → list_all p xs ≡ true → p x ≡ true → list_all p (xs ++ x ∷ []) ≡ true
   all_push [] x all here = rw here refl
-  all_push (y ∷ ys) x all here = go (p y) all
+  all_push (y ∷ ys) x all here = go (p y) all (λ rest. all_push ys x rest here)
     where
-      go : (b : Bool) → (b && list_all p ys) ≡ true → (b && list_all p (ys ++ x ∷ [])) ≡ true
-      go true rest = all_push ys x rest here
-      go false rest = rest
+      go : (b : Bool) → (b && list_all p ys) ≡ true → (list_all p ys ≡ true → list_all p (ys ++ x ∷ []) ≡ true) → (b && list_all p (ys ++ x ∷ [])) ≡ true
+      go true rest later = later rest
+      go false rest later = rest
 
   pub all_more : (xs : List X) (i : ℕ) (d : X) → i < length xs → list_all p (take i xs) ≡ true → p (get_or xs i d) ≡ true → list_all p (take (i + 1) xs) ≡ true
   all_more xs i d lt all here = ap (list_all p) (take_more xs i d lt) ∙ all_push (take i xs) (get_or xs i d) all here

@@ -1,11 +1,12 @@
 -- One more row that was checked.
-use Rattle.std.proofs.Common.{◌≡◌, ◌⊎◌, ℕ, ◌+◌, Bool, true, false, cond, List, [], ◌∷◌, ◌++◌, String, length, map, Result, Ok, Err, Some, slice_get, refl, sym, ◌∙◌, ap, inl, inr, arith, subst}
-use Rattle.std.specs.Prelude.{◌||◌, ◌&&◌, bytes_eq, filter, nat_le, OnOk}
+use Rattle.std.proofs.Common.{◌≡◌, ◌⊎◌, ℕ, ◌+◌, ◌≤◌, Bool, true, false, cond, List, [], ◌∷◌, ◌++◌, String, length, map, Result, Ok, Err, Some, slice_get, refl, sym, ◌∙◌, ap, inl, inr, arith, subst}
+use Rattle.std.specs.Prelude.{◌||◌, ◌&&◌, bytes_eq, filter, not, nat_le}
 use Rattle.std.specs.List.{list_any}
 use Rattle.std.specs.BTreeSet.{BTreeSet, contains_text}
 use Rattle.std.specs.declared.alloc.Global.{Global}
 use Rattle.std.proofs.lemmas.List.{map-append, length-append, append-nil}
 use Rattle.std.proofs.lemmas.List.Elements.{filter-append}
+use Rattle.std.proofs.lemmas.List.Filters.{length-filter_both}
 use Rattle.std.proofs.lemmas.Slice.Eq.{bytes_eq-Decides}
 use Rattle.wirelist.specs.Ranges.{most_parts}
 use Rattle.wirelist.specs.declared.refusal.WireRefusal.{WireRefusal}
@@ -127,3 +128,10 @@ unnamed_is_no_component row other = go (is_component row) refl
     go : (b : Bool) → is_component row ≡ b → b ≡ false
     go true e = let named = component_is_named row e in cc
     go false e = refl
+
+-- there are no more components than rows
+pub components_few : (before : List (List (List ℕ))) (names : BTreeSet (String Global)) (components : ℕ) → IsSeen before names components → components ≤ length before
+components_few before names components seen =
+    let both = length-filter_both is_component (λ row. not (is_component row)) (λ row. refl) before in
+    let count = seen.components_are in
+    omega arith

@@ -1,6 +1,6 @@
 //! What is wrong with a row, below the rows before it.
 
-ghost use Rattle.std.specs.Prelude.{◌≡◌, ◌<◌, ◌+◌, ◌-◌, ◌^◌, length, take, OnOk, Some};
+ghost use Rattle.std.specs.Prelude.{◌≡◌, ◌<◌, ◌+◌, ◌-◌, ◌^◌, length, take, All, OnOk, Some};
 ghost use Rattle.std.specs.List.{list_all, list_any};
 ghost use Rattle.wirelist_reader.specs.Kinds.{kind_of, is_number};
 ghost use Rattle.wirelist_reader.specs.Rows.{field_at, is_kind};
@@ -18,7 +18,8 @@ use wirelist_rows::Row;
 
 /// Finds the first fault of the rows, each below those before it.
 pub(crate) fn check_rows(alloc: Global, rows: &[Row]) -> Result<(), WireRefusal>
-    requires { length rows.now < 2 ^ 32 - 1 }
+    requires few { length rows.now < 2 ^ 32 - 1 }
+    requires short { All (λ row. length row < 2 ^ 32 - 1) rows.now }
     ensures { FindsOrMemory (all_row_faults rows.now) result }
 {
     let mut seen = Seen::new(alloc);
@@ -33,6 +34,7 @@ pub(crate) fn check_rows(alloc: Global, rows: &[Row]) -> Result<(), WireRefusal>
 /// Finds the first fault of a row.
 fn check_row(alloc: Global, seen: &mut Seen, rows: &[Row], i: usize) -> Result<(), WireRefusal>
     requires few { length rows.now < 2 ^ 32 - 1 }
+    requires short { All (λ row. length row < 2 ^ 32 - 1) rows.now }
     requires inside { i < length rows.now }
     requires seen { IsSeen (take i rows.now) seen.old.names seen.old.components }
     ensures finds { FindsOrMemory (row_faults rows.now i) result }
@@ -51,7 +53,8 @@ fn check_row(alloc: Global, seen: &mut Seen, rows: &[Row], i: usize) -> Result<(
 
 /// Finds the first fault of a row that no name and no count of others makes.
 fn check_alone(row: &Row, before: &[Row], number: u32) -> Result<(), WireRefusal>
-    requires { 0 < length row.now }
+    requires some { 0 < length row.now }
+    requires short { length row.now < 2 ^ 32 - 1 }
     ensures finds { Finds (alone_faults before.now row.now number) result }
     ensures fit { OnOk result (IsFit row.now) }
 {

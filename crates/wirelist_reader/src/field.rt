@@ -1,6 +1,6 @@
 //! The fields of a row.
 
-ghost use Rattle.std.specs.Prelude.{◌≡◌, ◌≤◌, ◌<◌, ◌^◌, ◌+◌, ◌-◌, ◌%◌, ◌==◌, ◌&&◌, length, IsTrue, option_map, slice_get};
+ghost use Rattle.std.specs.Prelude.{◌≡◌, ◌≤◌, ◌<◌, ◌^◌, ◌+◌, ◌-◌, ◌%◌, ◌==◌, ◌&&◌, length, IsTrue, IfSome, option_map, slice_get};
 ghost use Rattle.partition.specs.Names.{IsName};
 ghost use Rattle.wirelist_reader.specs.Kinds.{number, is_number, fits as fits_shape, bad_fields};
 ghost use Rattle.wirelist_reader.specs.Rows.{field_at, number_at};
@@ -13,7 +13,8 @@ use wirelist_rows::Row;
 /// The first place of a field that is missing, surplus, or not what it may be.
 pub(crate) fn bad_place(kind: Kind, row: &Row) -> Option<usize>
     requires { length row.now < 2 ^ 64 - 1 }
-    ensures { result ≡ slice_get (bad_fields kind row.now) 0 }
+    ensures first { result ≡ slice_get (bad_fields kind row.now) 0 }
+    ensures inside { IfSome result (λ place. place ≤ length row.now) }
 {
     for i in 0..row.len() {
         let place = i + 1;
