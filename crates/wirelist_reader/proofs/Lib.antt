@@ -25,3 +25,4 @@ pub mod PrintedFaults
 pub mod PartsLists
 pub mod NamedRows
 pub mod CheckFacts
+pub mod ReadFacts

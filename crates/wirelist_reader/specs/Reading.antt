@@ -1,6 +1,8 @@
 -- What is known of rows without a fault.
 use Rattle.std.specs.Prelude.{◌≡◌, ◌<◌, ◌≤◌, ℕ, List, [], ◌∷◌, ◌++◌, Option, None, Some, All, IsTrue}
 use Rattle.partition.specs.NetTable.{NetTable}
+use Rattle.partition.specs.declared.nets.NetsRefusal.{NetsRefusal}
+use Rattle.partition.specs.declared.nets.NetsRefusal.TheVariants as nets
 use Rattle.wirelist.specs.declared.refusal.WireRefusal.{WireRefusal}
 use Rattle.wirelist.specs.declared.refusal.WireRefusal.TheVariants as wire
 use Rattle.wirelist_reader.specs.Refusals.{text_faults, single_faults, field_faults}
@@ -33,3 +35,10 @@ kind_alone_faults (Some kind) before row n = single_faults kind before n ++ fiel
 -- the faults of a row that no name and no count of others makes
 abbrev pub alone_faults : List (List (List ℕ)) → List (List ℕ) → ℕ → List WireRefusal
 alone_faults before row n = text_faults row n ++ kind_alone_faults (kind_of (field_at row 0)) before row n
+
+-- how a refusal of nets is told
+abbrev pub told : NetsRefusal → WireRefusal
+told (nets.OutOfRange p) = wire.Nets (nets.OutOfRange p)
+told (nets.Twice p) = wire.Nets (nets.Twice p)
+told (nets.EmptyNet i) = wire.Nets (nets.EmptyNet i)
+told nets.Memory = wire.Memory

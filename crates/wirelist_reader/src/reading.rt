@@ -1,13 +1,13 @@
 //! A whole wirelist.
 
-ghost use Rattle.std.specs.Prelude.{◌≡◌, ◌≤◌, ◌<◌, ◌^◌, ◌-◌, length, IfOk, All};
+ghost use Rattle.std.specs.Prelude.{◌≡◌, ◌≤◌, ◌<◌, ◌^◌, ◌-◌, ◌++◌, [], length, IfOk, All};
 ghost use Rattle.partition.specs.NetFaults.{table_of};
 ghost use Rattle.wirelist.specs.Clusters.{ComponentsInside};
 ghost use Rattle.wirelist.specs.Programs.{IsProgram};
 ghost use Rattle.wirelist_rows.specs.Filled.{rows_in};
-ghost use Rattle.wirelist_reader.specs.Reading.{IsFit, AreHeads};
-ghost use Rattle.wirelist_reader.specs.Refusals.{Finds, FindsOrMemory, refusals, rows_refusals, head_faults, net_faults, cluster_faults};
-ghost use Rattle.wirelist_reader.specs.Rows.{program_of, points_in, listed_nets};
+ghost use Rattle.wirelist_reader.specs.Reading.{IsFit, AreHeads, told};
+ghost use Rattle.wirelist_reader.specs.Refusals.{Finds, FindsOrMemory, refusals, rows_refusals, all_row_faults, head_faults, net_faults, part_faults, cluster_faults};
+ghost use Rattle.wirelist_reader.specs.Rows.{program_of, points_in, listed_nets, ends_of};
 
 use crate::build::{
     attempts, diodes, first_of, insulation, listed_nets, net_names, resistors, withstand,
@@ -49,19 +49,58 @@ pub fn read(alloc: Global, bytes: &[u8]) -> Result<Program, WireRefusal>
 
 /// The program that rows give.
 fn read_rows(alloc: Global, rows: &[Row]) -> Result<Program, WireRefusal>
-    requires { length rows.now < 2 ^ 32 - 1 }
+    requires few { length rows.now < 2 ^ 32 - 1 }
+    requires short { All (λ row. length row < 2 ^ 32 - 1) rows.now }
     ensures program { IfOk result (λ p. p ≡ program_of rows.now) }
     ensures valid { IfOk result IsProgram }
     ensures finds { FindsOrMemory (rows_refusals rows.now) result }
 {
-    check_rows(alloc, rows)?;
-    let heads = read_heads(rows)?;
-    let nets = read_nets(alloc, rows, heads.points)?;
+    if let Err(refusal) = check_rows(alloc, rows) {
+        return Err(refusal);
+    }
+    match read_heads(rows) {
+        Ok(heads) => read_nets_and_parts(alloc, rows, heads),
+        Err(refusal) => Err(refusal),
+    }
+}
+
+/// The program of rows that have no fault of their own.
+fn read_nets_and_parts(alloc: Global, rows: &[Row], heads: Heads) -> Result<Program, WireRefusal>
+    requires few { length rows.now < 2 ^ 32 - 1 }
+    requires rows { all_row_faults rows.now ≡ [] }
+    requires named { head_faults rows.now ≡ [] }
+    requires heads { AreHeads rows.now heads.part heads.revision heads.points }
+    ensures program { IfOk result (λ p. p ≡ program_of rows.now) }
+    ensures valid { IfOk result IsProgram }
+    ensures finds { FindsOrMemory (net_faults rows.now ++ (part_faults (program_of rows.now).nets (ends_of rows.now) ++ cluster_faults (program_of rows.now))) result }
+{
+    match read_nets(alloc, rows, heads.points) {
+        Ok(nets) => read_parts(alloc, rows, heads, nets),
+        Err(refusal) => Err(refusal),
+    }
+}
+
+/// The program of rows that have no fault of their own and whose nets are nets.
+fn read_parts(alloc: Global, rows: &[Row], heads: Heads, nets: Nets) -> Result<Program, WireRefusal>
+    requires few { length rows.now < 2 ^ 32 - 1 }
+    requires rows { all_row_faults rows.now ≡ [] }
+    requires named { head_faults rows.now ≡ [] }
+    requires heads { AreHeads rows.now heads.part heads.revision heads.points }
+    requires nets { nets ≡ table_of (points_in rows.now) (listed_nets rows.now) }
+    requires netted { net_faults rows.now ≡ [] }
+    ensures program { IfOk result (λ p. p ≡ program_of rows.now) }
+    ensures valid { IfOk result IsProgram }
+    ensures finds { FindsOrMemory (part_faults (program_of rows.now).nets (ends_of rows.now) ++ cluster_faults (program_of rows.now)) result }
+{
     let ends = all_ends(alloc, rows)?;
-    check_parts(&nets, ends.as_slice())?;
+    if let Err(refusal) = check_parts(&nets, ends.as_slice()) {
+        return Err(refusal);
+    }
     let p = program(alloc, rows, heads, nets)?;
-    check_clusters(alloc, &p)?;
-    Ok(p)
+    match check_clusters(alloc, &p) {
+        Ok(()) => Ok(p),
+        Err(refusal) => Err(refusal),
+    }
 }
 
 /// The part and the number of points.
@@ -100,8 +139,17 @@ fn read_nets(alloc: Global, rows: &[Row], points: u16) -> Result<Nets, WireRefus
     let lists = listed_nets(alloc, rows)?;
     match Nets::new(alloc, points, lists) {
         Ok(nets) => Ok(nets),
-        Err(NetsRefusal::Memory) => Err(WireRefusal::Memory),
-        Err(refusal) => Err(WireRefusal::Nets(refusal)),
+        Err(refusal) => Err(told(refusal)),
+    }
+}
+
+/// How a refusal of nets is told.
+fn told(refusal: NetsRefusal) -> WireRefusal
+    ensures { result ≡ told refusal }
+{
+    match refusal {
+        NetsRefusal::Memory => WireRefusal::Memory,
+        refusal => WireRefusal::Nets(refusal),
     }
 }
 
