@@ -3,3 +3,4 @@ pub mod ReadBack
 pub mod ProgramRows
 pub mod NetSizes
 pub mod Lengths
+pub mod Printed

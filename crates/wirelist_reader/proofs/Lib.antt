@@ -26,3 +26,4 @@ pub mod PartsLists
 pub mod NamedRows
 pub mod CheckFacts
 pub mod ReadFacts
+pub mod ReadBackLaw

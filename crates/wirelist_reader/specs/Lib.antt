@@ -3,3 +3,4 @@ pub mod Rows
 pub mod Refusals
 pub mod Seen
 pub mod Reading
+pub mod Laws

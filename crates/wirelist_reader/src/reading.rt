@@ -1,9 +1,12 @@
 //! A whole wirelist.
 
-ghost use Rattle.std.specs.Prelude.{◌≡◌, ◌≤◌, ◌<◌, ◌^◌, ◌-◌, ◌++◌, [], length, IfOk, All};
+ghost use Rattle.std.specs.Prelude.{◌≡◌, ◌⊎◌, Ok, Err, ◌≤◌, ◌<◌, ◌^◌, ◌-◌, ◌++◌, [], length, IfOk, All};
 ghost use Rattle.partition.specs.NetFaults.{table_of};
 ghost use Rattle.wirelist.specs.Clusters.{ComponentsInside};
+ghost use Rattle.wirelist.specs.Canonical.{canonical};
 ghost use Rattle.wirelist.specs.Programs.{IsProgram};
+ghost use Rattle.wirelist.specs.declared.program.Program.{Program};
+ghost use Rattle.wirelist.specs.declared.refusal.WireRefusal.TheVariants as refusals_of;
 ghost use Rattle.wirelist_rows.specs.Filled.{rows_in};
 ghost use Rattle.wirelist_reader.specs.Reading.{IsFit, AreHeads, told};
 ghost use Rattle.wirelist_reader.specs.Refusals.{Finds, FindsOrMemory, refusals, rows_refusals, all_row_faults, head_faults, net_faults, part_faults, cluster_faults};
@@ -39,6 +42,8 @@ pub fn read(alloc: Global, bytes: &[u8]) -> Result<Program, WireRefusal>
     ensures valid { IfOk result IsProgram }
     // A file is refused exactly for its first fault, unless memory runs out.
     ensures finds { FindsOrMemory (refusals bytes.now) result }
+    // The canonical text of a program is read as that program.
+    ensures printed { (p : Program) → IsProgram p → bytes.now ≡ canonical p → (result ≡ Ok p) ⊎ (result ≡ Err refusals_of.Memory) }
 {
     if bytes.len() > MOST_BYTES {
         return Err(WireRefusal::TooLong(bytes.len().min(4_294_967_295) as u32));
