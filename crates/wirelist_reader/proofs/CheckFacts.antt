@@ -1,21 +1,20 @@
 -- What the checks of a row find.
-use Rattle.std.proofs.Common.{◌≡◌, ◌⊎◌, ℕ, ◌+◌, ◌<◌, ◌≤◌, ◌^◌, Bool, true, false, List, [], ◌∷◌, ◌++◌, length, get_or, take, Option, None, Some, Result, Ok, Err, slice_get, refl, sym, ◌∙◌, ap, arith, inl, inr, subst, append_assoc}
+use Rattle.std.proofs.Common.{◌≡◌, ℕ, ◌+◌, ◌<◌, true, false, List, [], ◌∷◌, ◌++◌, length, take, Option, None, Some, Result, Ok, Err, slice_get, refl, sym, ◌∙◌, ap, arith, inr, subst, append_assoc}
 use Rattle.std.specs.Prelude.{◌&&◌, ◌==◌, map}
 use Rattle.std.specs.List.{flat_map, list_all, list_any}
 use Rattle.std.proofs.lemmas.Bool.{ne_eqb}
-use Rattle.std.proofs.lemmas.List.{append-nil, take_more}
 use Rattle.lines.specs.Numbers.{IsNumberWord}
 use Rattle.partition.specs.Classes.{points_below}
-use Rattle.partition.proofs.ClaimLemmas.{first_below, none_more}
+use Rattle.partition.proofs.ClaimLemmas.{first_below}
 use Rattle.wirelist.specs.declared.refusal.WireRefusal.{WireRefusal}
 use Rattle.wirelist.specs.declared.refusal.WireRefusal.TheVariants as wire
 use Rattle.wirelist_reader.specs.Kinds.{bad_fields, kind_of}
-use Rattle.wirelist_reader.specs.Reading.{IsFit, alone_faults, kind_alone_faults}
+use Rattle.wirelist_reader.specs.Reading.{IsFit, alone_faults}
 use Rattle.wirelist_reader.specs.Rows.{field_at, is_kind, row_at}
 use Rattle.wirelist_reader.specs.Refusals.{Finds, FindsOrMemory, bad_field, field_faults, is_single, is_text, kind_faults, late_faults, row_faults, single_faults, text_faults, all_row_faults}
 use Rattle.wirelist_reader.specs.declared.kind.Kind.{Kind}
 use Rattle.wirelist_reader.specs.declared.kind.Kind.TheVariants.{Points}
-use Rattle.wirelist_reader.proofs.Firsts.{first_in_left, first_in_right, none_in_both}
+use Rattle.wirelist_reader.proofs.Firsts.{first_in_left}
 use Rattle.wirelist_reader.proofs.KindFacts.{is_kind_of}
 use Rattle.wirelist_reader.proofs.Numbers.{word_is_number, word_number}
 

@@ -1,9 +1,8 @@
 -- The kind of a row, and what it tells.
-use Rattle.std.proofs.Common.{◌≡◌, ℕ, Bool, true, false, cond, List, [], ◌∷◌, Option, None, Some, refl, sym, ◌∙◌, ap}
+use Rattle.std.proofs.Common.{◌≡◌, ℕ, Bool, true, false, cond, List, [], ◌∷◌, Some, refl, sym, ◌∙◌, ap}
 use Rattle.std.specs.Prelude.{bytes_eq, find}
 use Rattle.wirelist_reader.specs.Kinds.{kind_of, kind_word, all_kinds}
 use Rattle.wirelist_reader.specs.Rows.{field_at, is_kind, is_named, is_component}
-use Rattle.wirelist_reader.specs.Refusals.{is_single}
 use Rattle.wirelist_reader.specs.declared.kind.Kind.{Kind}
 use Rattle.wirelist_reader.specs.declared.kind.Kind.TheVariants.{Part, Points, Net, Resistor, Diode, Insulation, Withstand, Attempts}
 use Rattle.wirelist_reader.proofs.Numbers.{bytes_equal, bytes_same}

@@ -1,6 +1,6 @@
 -- The fields of rows of nets and components.
-use Rattle.std.proofs.Common.{◌≡◌, ◌⊎◌, ℕ, ◌<◌, ◌≤◌, ◌^◌, Bool, true, false, List, refl, arith, inl, inr, subst, sym}
-use Rattle.std.specs.Prelude.{◌||◌, IsTrue}
+use Rattle.std.proofs.Common.{◌≡◌, ◌⊎◌, ℕ, ◌<◌, ◌≤◌, ◌^◌, Bool, true, false, List, refl, arith, inl, inr}
+use Rattle.std.specs.Prelude.{◌||◌}
 use Rattle.partition.specs.Names.{IsName}
 use Rattle.wirelist_reader.specs.Kinds.{number, is_number}
 use Rattle.wirelist_reader.specs.Reading.{IsFit}

@@ -1,5 +1,5 @@
 -- What is printed is read.
-use Rattle.std.proofs.Common.{◌≡◌, ◌⊎◌, ◌≤◌, ◌<◌, List, ℕ, [], map, length, Result, Ok, Err, Some, slice_get, ◌∙◌, ap, sym, arith, inl, inr, subst}
+use Rattle.std.proofs.Common.{◌≡◌, ◌⊎◌, ◌<◌, List, ℕ, [], map, length, Result, Ok, Err, Some, slice_get, ◌∙◌, ap, sym, arith, inl, inr}
 use Rattle.std.specs.Prelude.{IfOk}
 use Rattle.printed_rows.proofs.Lengths.{canonical_short}
 use Rattle.printed_rows.proofs.Printed.{printed_records}

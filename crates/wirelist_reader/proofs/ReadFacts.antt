@@ -1,6 +1,6 @@
 -- The faults of a whole file, one list after another.
-use Rattle.std.proofs.Common.{◌≡◌, ◌⊎◌, ℕ, ◌≤◌, Bool, true, false, cond, List, [], ◌∷◌, ◌++◌, Option, None, Some, Result, Ok, Err, slice_get, refl, sym, ◌∙◌, ap, inl, inr, subst, map, length, arith}
-use Rattle.std.specs.Prelude.{◌&&◌, ◌||◌, not, filter, nat_lt}
+use Rattle.std.proofs.Common.{◌≡◌, ◌⊎◌, ℕ, ◌≤◌, Bool, true, false, cond, List, [], ◌∷◌, ◌++◌, None, Some, Result, slice_get, refl, sym, ◌∙◌, ap, inl, inr, subst, map, length, arith}
+use Rattle.std.specs.Prelude.{◌||◌, filter, nat_lt}
 use Rattle.std.specs.List.{list_any}
 use Rattle.std.proofs.lemmas.Option.{get_or_from_slice_get}
 use Rattle.partition.specs.NetTable.{NetTable}

@@ -1,18 +1,16 @@
 -- One more row that was checked.
-use Rattle.std.proofs.Common.{◌≡◌, ◌⊎◌, ℕ, ◌+◌, ◌≤◌, Bool, true, false, cond, List, [], ◌∷◌, ◌++◌, String, length, map, Result, Ok, Err, Some, slice_get, refl, sym, ◌∙◌, ap, inl, inr, arith, subst}
-use Rattle.std.specs.Prelude.{◌||◌, ◌&&◌, bytes_eq, filter, not, nat_le}
+use Rattle.std.proofs.Common.{◌≡◌, ℕ, ◌+◌, ◌≤◌, Bool, true, false, cond, List, [], ◌∷◌, ◌++◌, String, length, map, Some, slice_get, refl, sym, ◌∙◌, ap, arith}
+use Rattle.std.specs.Prelude.{◌||◌, bytes_eq, filter, not, nat_le}
 use Rattle.std.specs.List.{list_any}
 use Rattle.std.specs.BTreeSet.{BTreeSet, contains_text}
 use Rattle.std.specs.declared.alloc.Global.{Global}
 use Rattle.std.proofs.lemmas.List.{map-append, length-append, append-nil}
 use Rattle.std.proofs.lemmas.List.Elements.{filter-append}
 use Rattle.std.proofs.lemmas.List.Filters.{length-filter_both}
-use Rattle.std.proofs.lemmas.Slice.Eq.{bytes_eq-Decides}
 use Rattle.wirelist.specs.Ranges.{most_parts}
-use Rattle.wirelist.specs.declared.refusal.WireRefusal.{WireRefusal}
 use Rattle.wirelist.specs.declared.refusal.WireRefusal.TheVariants as wire
 use Rattle.wirelist_reader.specs.Rows.{field_at, is_component, is_named}
-use Rattle.wirelist_reader.specs.Refusals.{Finds, FindsOrMemory, fault_if, names_in, name_faults, window_faults, count_faults, late_faults}
+use Rattle.wirelist_reader.specs.Refusals.{fault_if, names_in, window_faults, late_faults}
 use Rattle.wirelist_reader.specs.Seen.{AreNames, IsSeen}
 use Rattle.wirelist_reader.proofs.Numbers.{bytes_same, bytes_equal}
 

@@ -5,7 +5,7 @@
 --     number field          the number that a field is
 --     fits shape field      whether a field is what it may be
 --     bad_fields kind row   the numbers of the fields that are missing, surplus, or not what they may be
-use Rattle.std.specs.Prelude.{ℕ, ◌+◌, ◌-◌, ◌%◌, Bool, true, false, ◌&&◌, ◌==◌, not, nat_le, bytes_eq, List, [], ◌∷◌, Option, None, Some, length, filter, find, map, codes, slice_get, slice_index_or}
+use Rattle.std.specs.Prelude.{ℕ, ◌-◌, ◌%◌, Bool, true, false, ◌&&◌, ◌==◌, not, nat_le, bytes_eq, List, [], ◌∷◌, Option, None, Some, length, filter, find, codes, slice_get, slice_index_or}
 use Rattle.std.specs.List.{range_with_len}
 use Rattle.std.specs.Fmt.{decimal}
 use Rattle.std.specs.Str.Parse.{digits_value}

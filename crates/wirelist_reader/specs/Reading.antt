@@ -1,5 +1,5 @@
 -- What is known of rows without a fault.
-use Rattle.std.specs.Prelude.{◌≡◌, ◌<◌, ◌≤◌, ℕ, List, [], ◌∷◌, ◌++◌, Option, None, Some, All, IsTrue}
+use Rattle.std.specs.Prelude.{◌≡◌, ◌<◌, ◌≤◌, ℕ, List, [], ◌∷◌, ◌++◌, Option, None, Some, IsTrue}
 use Rattle.partition.specs.NetTable.{NetTable}
 use Rattle.partition.specs.declared.nets.NetsRefusal.{NetsRefusal}
 use Rattle.partition.specs.declared.nets.NetsRefusal.TheVariants as nets

@@ -3,7 +3,7 @@
 use crate::read;
 use partition::{NetsRefusal, Point};
 use std::test::Fail;
-use wirelist::WireRefusal;
+use wirelist::{WireRefusal, print};
 
 const W1: &str = "part,P1,1\npoints,5\nnet,A,0,1\nnet,B,2,3\n";
 
@@ -18,6 +18,19 @@ fn one_more_row_is_refused_for_its_first_fault(rt: HostRuntime) -> Result<(), Fa
         ("resistor,R1,0,9,20000,30000", WireRefusal::PartPoint(5)),
         ("part,P2,1", WireRefusal::SecondRow(5)),
         ("net,C,1,4", WireRefusal::Nets(NetsRefusal::Twice(Point(1)))),
+        (
+            "net,C,4,5",
+            WireRefusal::Nets(NetsRefusal::OutOfRange(Point(5))),
+        ),
+        ("net,C", WireRefusal::Nets(NetsRefusal::EmptyNet(2))),
+        ("resistor,B,0,2,20000,30000", WireRefusal::SameName(5)),
+        ("diode,D1,0,2,5001,5000", WireRefusal::BadField(5, 5)),
+        ("net,C,4,,5", WireRefusal::BadField(5, 4)),
+        ("withstand,2050,1,1", WireRefusal::BadField(5, 2)),
+        (
+            "diode,D1,0,2,1,2\nresistor,R1,3,1,20000,30000",
+            WireRefusal::SecondPart(5),
+        ),
     ] {
         let text = format!(in rt.alloc(); "{W1}{row}\n")?;
         assert_eq!(rt; read(rt.alloc(), text.as_bytes()).err(), Some(refusal));
@@ -38,11 +51,9 @@ fn other_files_are_refused(rt: HostRuntime) -> Result<(), Fail> {
         ("part,P1\n", WireRefusal::BadField(1, 3)),
         ("part,P1,1,2\n", WireRefusal::BadField(1, 4)),
         ("part,P1,01\n", WireRefusal::BadField(1, 3)),
-        (
-            "points,5\nnet,N\npart,P1,1\n",
-            WireRefusal::Nets(NetsRefusal::EmptyNet(0)),
-        ),
+        ("part,-P,1\n", WireRefusal::BadField(1, 2)),
         ("p\u{e9},1\n", WireRefusal::NotText(1)),
+        ("\n,,\ncolour\n", WireRefusal::UnknownKind(2)),
         ("insulation,75,1,1\n", WireRefusal::BadField(1, 2)),
     ] {
         assert_eq!(rt; read(rt.alloc(), text.as_bytes()).err(), Some(refusal));
@@ -51,9 +62,24 @@ fn other_files_are_refused(rt: HostRuntime) -> Result<(), Fail> {
 }
 
 #[test]
-fn quotes_and_empty_fields_are_read(rt: HostRuntime) -> Result<(), Fail> {
-    let text = format!(in rt.alloc(); "{W1}\"net\",C,4,,\n")?;
-    let p = read(rt.alloc(), text.as_bytes())?;
-    assert_eq!(rt; p.names.len(), 3);
+fn rows_stand_in_any_order_and_form(rt: HostRuntime) -> Result<(), Fail> {
+    for (text, printed) in [
+        (
+            "\u{feff}\"net\",A,1,0,,\r\n\r\npoints,5\r\n,,\npart,\"P1\",1",
+            "part,P1,1\npoints,5\nnet,A,0,1\nattempts,3\n",
+        ),
+        (
+            "attempts,9\ndiode,D1,0,2,500,800\nwithstand,1500,10,2000\npoints,3\nresistor,R1,0,1,20000,30000\npart,P1,1\ninsulation,500,20,100\n",
+            "part,P1,1\npoints,3\nresistor,R1,0,1,20000,30000\ndiode,D1,0,2,500,800\ninsulation,500,20,100\nwithstand,1500,10,2000\nattempts,9\n",
+        ),
+    ] {
+        let p = read(rt.alloc(), text.as_bytes())?;
+        assert_eq!(rt; print(rt.alloc(), &p)?.as_str(), printed);
+        assert!(rt; read(rt.alloc(), printed.as_bytes())?.equal(&p));
+    }
+    assert_eq!(rt;
+        read(rt.alloc(), b"part,P\"\"1,1\n").err(),
+        Some(WireRefusal::BadField(1, 2))
+    );
     Ok(())
 }

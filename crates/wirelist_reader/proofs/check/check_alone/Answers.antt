@@ -1,7 +1,6 @@
-use Rattle.std.proofs.Common.{◌≡◌, true, false, Some, rules, sym, ◌∙◌, ap, List}
-use Rattle.std.specs.Prelude.{◌&&◌, slice_get}
+use Rattle.std.proofs.Common.{◌≡◌, true, false, Some, rules, sym, ◌∙◌, ap}
+use Rattle.std.specs.Prelude.{◌&&◌}
 use Rattle.std.specs.List.{list_all, list_any}
-use Rattle.wirelist.specs.declared.refusal.WireRefusal.{WireRefusal}
 use Rattle.wirelist_reader.specs.Kinds.{kind_of}
 use Rattle.wirelist_reader.specs.Rows.{field_at, is_kind}
 use Rattle.wirelist_reader.specs.Refusals.{is_single, is_text}

@@ -1,4 +1,4 @@
-use Rattle.std.proofs.Common.{◌≡◌, ◌≤◌, ◌<◌, List, ℕ, [], length, take, min, rules, arith, sym, ◌∙◌}
+use Rattle.std.proofs.Common.{◌≡◌, [], take, rules, arith, sym, ◌∙◌}
 use Rattle.std.proofs.lemmas.List.{get_or_default, length-take-le}
 use Rattle.wirelist_reader.specs.Rows.{row_at}
 use Rattle.wirelist_reader.proofs.CheckFacts.{alone_finds, late_finds}

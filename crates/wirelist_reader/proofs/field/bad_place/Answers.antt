@@ -1,5 +1,4 @@
-use Rattle.std.proofs.Common.{◌≡◌, true, false, length, ap, sym, ◌∙◌, refl, List, [], slice_get, None, ℕ, arith, rules, subst}
-use Rattle.wirelist_reader.specs.Kinds.{bad_fields, fits, shape_at}
+use Rattle.std.proofs.Common.{length, refl, rules}
 use Rattle.wirelist_reader.proofs.BadPlaces.{NoneBad, none_bad_more, first_bad, none_bad_of_all}
 use Rattle.wirelist_reader.proofs.field.bad_place.Goals as goal
 

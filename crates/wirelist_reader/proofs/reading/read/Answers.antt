@@ -1,7 +1,7 @@
-use Rattle.std.proofs.Common.{◌≡◌, ◌≤◌, ◌<◌, ◌∙◌, List, ℕ, length, rules, sym, ap, subst}
+use Rattle.std.proofs.Common.{◌≡◌, ◌≤◌, ◌<◌, ◌∙◌, List, ℕ, length, rules, sym, subst}
 use Rattle.std.specs.Prelude.{IfOk}
 use Rattle.wirelist_rows.specs.Filled.{rows_in}
-use Rattle.wirelist_reader.specs.Refusals.{FindsOrMemory, most_bytes, refusals, rows_refusals}
+use Rattle.wirelist_reader.specs.Refusals.{FindsOrMemory, most_bytes, rows_refusals}
 use Rattle.wirelist_reader.specs.Rows.{program_of}
 use Rattle.wirelist.specs.declared.program.Program.{Program}
 use Rattle.wirelist.specs.declared.refusal.WireRefusal.{WireRefusal}

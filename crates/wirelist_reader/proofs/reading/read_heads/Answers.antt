@@ -1,6 +1,5 @@
-use Rattle.std.proofs.Common.{◌≡◌, ◌∙◌, Some, None, List, ℕ, inl, inr, sym, ap, slice_get, rules, true}
-use Rattle.std.specs.List.{list_any}
-use Rattle.wirelist_reader.specs.Rows.{field_at, first_of, is_kind, number_at, rows_of_kind}
+use Rattle.std.proofs.Common.{◌∙◌, List, ℕ, inl, inr, ap, rules}
+use Rattle.wirelist_reader.specs.Rows.{field_at, is_kind, number_at}
 use Rattle.wirelist_reader.specs.declared.kind.Kind.TheVariants.{Part, Points}
 use Rattle.wirelist_reader.proofs.BuildFacts.{part_name, part_revision, points_number}
 use Rattle.wirelist_reader.proofs.BuildLists.{first_fits}

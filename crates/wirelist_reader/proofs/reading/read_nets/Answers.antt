@@ -1,6 +1,3 @@
-use Rattle.std.proofs.Common.{◌≡◌, ◌⊎◌, ◌∙◌, ℕ, List, None, Some, inl, inr, ap, sym, subst}
-use Rattle.partition.specs.NetFaults.{first_fault}
-use Rattle.wirelist_reader.specs.Rows.{listed_nets, points_in}
 use Rattle.wirelist_reader.proofs.ReadFacts.{nets_faultless, nets_refused}
 use Rattle.wirelist_reader.proofs.reading.read_nets.Goals as goal
 

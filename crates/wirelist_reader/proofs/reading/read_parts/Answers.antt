@@ -1,10 +1,8 @@
-use Rattle.std.proofs.Common.{◌≡◌, ◌⊎◌, ◌∙◌, List, [], inl, inr, sym, ap, subst, Some, slice_get}
+use Rattle.std.proofs.Common.{◌≡◌, ◌∙◌, [], sym, ap, subst}
 use Rattle.wirelist.specs.Clusters.{ComponentsInside}
 use Rattle.wirelist.specs.Programs.{IsProgram}
-use Rattle.wirelist.specs.declared.program.Program.{Program}
-use Rattle.wirelist.specs.declared.refusal.WireRefusal.{WireRefusal}
-use Rattle.wirelist_reader.specs.Refusals.{cluster_faults, part_faults}
-use Rattle.wirelist_reader.specs.Rows.{ends_of, program_of}
+use Rattle.wirelist_reader.specs.Refusals.{cluster_faults}
+use Rattle.wirelist_reader.specs.Rows.{program_of}
 use Rattle.wirelist_reader.proofs.GivenEnds.{inside_of_faultless}
 use Rattle.wirelist_reader.proofs.GivenProgram.{program_of_faultless}
 use Rattle.wirelist_reader.proofs.GivenRows.{fit_of_faultless}

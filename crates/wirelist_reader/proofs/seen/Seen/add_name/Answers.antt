@@ -3,7 +3,6 @@ use Rattle.std.specs.BTreeSet.{contains_text}
 use Rattle.std.specs.Prelude.{string_bytes, bytes_eq}
 use Rattle.std.proofs.lemmas.Map.Text.{btree_set_updates_text}
 use Rattle.wirelist_reader.specs.Rows.{field_at}
-use Rattle.wirelist_reader.specs.Seen.{AreNames}
 use Rattle.wirelist_reader.proofs.SeenFacts.{names_more, same_name, new_name}
 use Rattle.wirelist_reader.proofs.seen.Seen.add_name.Goals as goal
 
