@@ -5,11 +5,12 @@ use Rattle.rig_sim.specs.Harness.{IsHarness}
 use Rattle.rig_sim.specs.SimRig.{SimState}
 use Rattle.bench_cli.specs.Words.{IsCommand}
 use Rattle.bench_cli.specs.Run.{Run, Ends}
-use Rattle.bench_cli.specs.Run.Ends.{no_command, harness_fault, harness_refused, harness_memory, wires_fault, wires_refused, wires_memory, checked}
+use Rattle.bench_cli.specs.Run.Ends.{no_command, harness_fault, harness_refused, harness_memory, wires_fault, wires_refused, wires_memory, checked, learned}
 use Rattle.bench_cli.specs.Promises.{TellsHarness, Failed, IsRun}
 use Rattle.rig_sim.proofs.LawLemmas.{harness_law}
 use Rattle.bench_cli.proofs.RunLemmas.{way, harness_told, refusal_told, no_command_fact, usage_fact, harness_refused_fact, refused_harness_fact, wires_refused_fact, refused_wires_fact, read_fault_fact}
-use Rattle.bench_cli.proofs.UnitFacts.{checked_fact, write_fault_fact, fixture_empty_fact, rig_fault_fact, empty_fixture_fact, complete_fact}
+use Rattle.bench_cli.proofs.UnitFacts.{checked_fact, learned_fact, write_fault_fact, learn_write_fault_fact, commanded_fact, fixture_empty_fact, rig_fault_fact}
+use Rattle.bench_cli.proofs.FormFacts.{empty_fixture_fact, none_to_learn_fact, complete_fact, complete_learning_fact}
 
 module _ (run : Run) where
   abbrev HandedFact : Type 0
@@ -20,10 +21,11 @@ module _ (run : Run) where
   handed_out_fact status rig (harness_fault command rose line) sim out = cc
   handed_out_fact status rig (harness_refused command refusal refuses line) sim out = cc
   handed_out_fact status rig (harness_memory command wrote) sim out = cc
-  handed_out_fact status rig (wires_fault command new takes rose line) sim out = (command, takes.rows, harness_told takes)
-  handed_out_fact status rig (wires_refused command new takes refuses line) sim out = (command, takes.rows, harness_told takes)
-  handed_out_fact status rig (wires_memory command new takes wrote) sim out = (command, takes.rows, harness_told takes)
-  handed_out_fact status rig (checked {attempt = attempt} {serial = serial} words new final takes wires ends) sim out = ((serial, attempt, words), takes.rows, harness_told takes)
+  handed_out_fact status rig (wires_fault asked new takes rose line) sim out = (inl asked, takes.rows, harness_told takes)
+  handed_out_fact status rig (wires_refused asked new takes refuses line) sim out = (inl asked, takes.rows, harness_told takes)
+  handed_out_fact status rig (wires_memory asked new takes wrote) sim out = (inl asked, takes.rows, harness_told takes)
+  handed_out_fact status rig (checked {attempt = attempt} {serial = serial} words new final takes wires ends) sim out = (inl (serial, attempt, words), takes.rows, harness_told takes)
+  handed_out_fact status rig (learned {attempt = attempt} {serial = serial} words new final takes unread ends) sim out = (inr (serial, attempt, words), takes.rows, harness_told takes)
 
   abbrev KeptFact : ℕ → Type 0
   KeptFact status = (status ≡ 9) ⊎ ((status ≡ 6) × Failed run.harness)
@@ -38,6 +40,7 @@ module _ (run : Run) where
   kept_back_fact status rig (wires_refused given new takes refuses line) out command file rows told is = cc
   kept_back_fact status rig (wires_memory given new takes wrote) out command file rows told is = cc
   kept_back_fact status rig (checked words new final takes wires ends) out command file rows told is = cc
+  kept_back_fact status rig (learned words new final takes unread ends) out command file rows told is = cc
 
   pub is_run : (status : ℕ) (rig : Option SimState) → Ends run status rig → IsRun run status rig
   is_run status rig ends =
@@ -53,11 +56,15 @@ module _ (run : Run) where
         read_fault = read_fault_fact run status rig by;
         fixture_empty = fixture_empty_fact run status rig by;
         empty_fixture = λ rows form. empty_fixture_fact run status rig rows by form;
+        none_to_learn = λ rows form. none_to_learn_fact run status rig rows by form;
         rig_fault = rig_fault_fact run status rig by;
         checked = checked_fact run status rig by;
+        learned = learned_fact run status rig by;
         write_fault = write_fault_fact run status rig by;
-        complete = λ rows elements form no_row harness_read wires_read written counts.
-            complete_fact run status rig rows by elements form (record { no_fault_row = no_row; harness_read = harness_read; wires_read = wires_read; written = written; counts = counts });
+        learn_write_fault = learn_write_fault_fact run status rig by;
+        commanded = commanded_fact run status rig by;
+        complete = λ rows elements form read calm. complete_fact run status rig rows by elements form read calm;
+        complete_learning = λ rows elements form calm. complete_learning_fact run status rig rows by elements form calm;
         handed_out = handed_out_fact status rig ends;
         kept_back = kept_back_fact status rig ends;
       }

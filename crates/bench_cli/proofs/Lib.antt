@@ -1,8 +1,9 @@
 pub mod FiveWords
-pub mod CheckLemmas
+pub mod UnitLemmas
 pub mod TopLemmas
 pub mod UnitWays
-pub mod CheckedLemmas
+pub mod SeatedLemmas
 pub mod RunLemmas
 pub mod UnitFacts
+pub mod FormFacts
 pub mod IsRunFacts

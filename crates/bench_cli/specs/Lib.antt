@@ -1,6 +1,7 @@
 pub mod Words
 pub mod Closing
-pub mod CheckEnds
+pub mod UnitEnds
+pub mod Findings
 pub mod Run
 pub mod Files
 pub mod Promises

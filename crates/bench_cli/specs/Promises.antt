@@ -1,10 +1,12 @@
 -- What a run of the program promises, of its words, the bytes that its sources had left, what its sink got, its status and the rig that it hands out.
-use Rattle.std.specs.Prelude.{◌≡◌, ◌⊎◌, ◌<◌, ℕ, List, Option, None, Some, take, map, zip, Contains}
+use Rattle.std.specs.Prelude.{◌≡◌, ◌⊎◌, ◌<◌, ◌≤◌, ◌+◌, ℕ, List, [], Option, None, Some, take, length, map, zip, Contains}
 use Rattle.base.specs.Causes.{Rose}
+use Rattle.partition.specs.Heads.{heads}
 use Rattle.partition.specs.NetTable.{NetTable}
 use Rattle.rig.specs.declared.unit.Row.{Row}
 use Rattle.rig.specs.Joins.{joined_classes, unit_rows}
 use Rattle.rig.specs.Calls.{IsBelowLast}
+use Rattle.rig.specs.Trail.{Determines, Extends, IsReading}
 use Rattle.rig_sim.specs.declared.row.HarnessRow.{HarnessRow}
 use Rattle.rig_sim.specs.declared.row.HarnessRow.TheVariants.{Fault}
 use Rattle.rig_sim.specs.declared.refusal.HarnessRefusal.{HarnessRefusal}
@@ -14,9 +16,11 @@ use Rattle.rig_sim.specs.Harness.{IsHarness, IsRefused}
 use Rattle.rig_sim.specs.SimRig.{SimState}
 use Rattle.first_form.specs.FirstForm.{Wires, IsFirstForm, Reads}
 use Rattle.continuity_check.specs.Compared.{Trial, judged, reading_of, checked_text, compared_of}
-use Rattle.bench_cli.specs.Words.{IsContinuity, IsCommand}
+use Rattle.learn.specs.Learned.{most_readings}
+use Rattle.learned_program.specs.LearnedProgram.{learned_text}
+use Rattle.bench_cli.specs.Words.{IsContinuity, IsLearn, AsksContinuity, AsksLearn, IsCommand}
 use Rattle.bench_cli.specs.Closing.{Wrote, WroteSome, Closes, usage_line, read_fault_line, rig_fault_line, fixture_empty_line}
-use Rattle.bench_cli.specs.Run.{Read, Run, Ends, most_of_harness, most_of_wires, refusal_line, first_form_line}
+use Rattle.bench_cli.specs.Run.{Read, Run, IsUnread, Ends, most_of_harness, most_of_wires, refusal_line, first_form_line}
 
 -- where the source tells, the file that is read of it, which is all of it unless it is longer than a file may be
 abbrev pub Tells : Read → ℕ → List ℕ → Type 0
@@ -48,23 +52,51 @@ pub record IsChecked (run : Run) (sim : SimState) (trials : List Trial) : Type 0
   pub answers : trials ≡ map (judged (joined_classes elements (points_in rows))) (compared_of (zip names nets.named))
   pub trail : sim.state.trail ≡ Some (map reading_of trials)
 
--- both files are in form, and the unit of the words is this one, or is none
-pub record AreInForm (run : Run) (rows : List HarnessRow) (unit : Option (List Row)) : Type 0 where
+-- The unit of the words was learned by readings alone, within the bounds on their number, and the wirelist was left alone.
+-- The readings determine the classes, which are those of the unit's joins in the harness file.
+pub record HasLearned (run : Run) (sim : SimState) (classes : List ℕ) : Type 0 where
+  pub rows : List HarnessRow
+  pub elements : List Row
   pub serial : List ℕ
   pub attempt : ℕ
-  pub words : IsContinuity run.words serial attempt
+  pub words : IsLearn run.words serial attempt
+  pub harness : (file : List ℕ) → TellsHarness run file → IsHarness file rows
+  pub wires : IsUnread run.wires
+  pub unit : unit_rows (units_of rows) serial attempt ≡ Some elements
+  pub truth : classes ≡ joined_classes elements (points_in rows)
+  pub trail : Extends IsReading (Some []) sim.state.trail
+  pub determined : Determines sim.state classes
+  pub at_least : length classes ≤ sim.state.spent + length (heads classes)
+  pub at_most : sim.state.spent ≤ most_readings (length classes) (length (heads classes))
+
+-- the harness file is in form, and the unit of the words is this one, or is none
+pub record FindsUnit (IsWords : List (List ℕ) → List ℕ → ℕ → Type 0) (run : Run) (rows : List HarnessRow) (unit : Option (List Row)) : Type 0 where
+  pub serial : List ℕ
+  pub attempt : ℕ
+  pub words : IsWords run.words serial attempt
   pub harness_file : List ℕ
   pub told_harness : TellsHarness run harness_file
   pub harness : IsHarness harness_file rows
+  pub unit_is : unit_rows (units_of rows) serial attempt ≡ unit
+
+-- the wirelist is in form too
+pub record AreInForm (run : Run) (rows : List HarnessRow) (unit : Option (List Row)) : Type 0 where
+  pub finds : FindsUnit IsContinuity run rows unit
   pub wires_file : List ℕ
   pub told_wires : TellsWires run wires_file
   pub wires : Wires
   pub first_form : IsFirstForm wires_file (points_in rows) wires
-  pub unit_is : unit_rows (units_of rows) serial attempt ≡ unit
 
 -- The status is 9 in place of its own where memory ran out; this is the one answer without a cause.
 abbrev pub Is : ℕ → ℕ → Type 0
 Is own status = (status ≡ own) ⊎ (status ≡ 9)
+
+-- no `fault` row, no failed read of the harness file, no failed write, and counts of the rig that can still rise
+pub record Undisturbed (run : Run) (rows : List HarnessRow) (rig : Option SimState) : Type 0 where
+  pub no_fault_row : (k : ℕ) → Contains rows (Fault k) → ⊥
+  pub harness_read : Failed run.harness → ⊥
+  pub written : Rose run.sunk.faults run.sunk.faults_after → ⊥
+  pub counts : (sim : SimState) → rig ≡ Some sim → IsBelowLast sim.state.spent × IsBelowLast sim.state.seats
 
 pub record IsRun (run : Run) (status : ℕ) (rig : Option SimState) : Type 0 where
   -- each run ends in one of these ways
@@ -75,27 +107,31 @@ pub record IsRun (run : Run) (status : ℕ) (rig : Option SimState) : Type 0 whe
   -- 3 exactly where the harness file is refused; the line says why
   pub harness_refused : status ≡ 3 → IsCommand run.words × (refusal : HarnessRefusal) × ((file : List ℕ) → TellsHarness run file → IsRefused file refusal) × Closes run.sunk (refusal_line refusal)
   pub refused_harness : IsCommand run.words → (file : List ℕ) (refusal : HarnessRefusal) → TellsHarness run file → IsRefused file refusal → Is 3 status ⊎ ((status ≡ 6) × Failed run.harness)
-  -- 4 exactly where the wirelist is not in form for this harness
-  pub wires_refused : status ≡ 4 → (rows : List HarnessRow) × ((file : List ℕ) → TellsHarness run file → IsHarness file rows)
+  -- 4 exactly where the wirelist is asked for and is not in form for this harness
+  pub wires_refused : status ≡ 4 → AsksContinuity run.words × (rows : List HarnessRow) × ((file : List ℕ) → TellsHarness run file → IsHarness file rows)
       × ((file : List ℕ) (w : Wires) → TellsWires run file → IsFirstForm file (points_in rows) w → ⊥) × Closes run.sunk first_form_line
-  pub refused_wires : IsCommand run.words → (harness wires : List ℕ) (rows : List HarnessRow) → TellsHarness run harness → IsHarness harness rows
+  pub refused_wires : AsksContinuity run.words → (harness wires : List ℕ) (rows : List HarnessRow) → TellsHarness run harness → IsHarness harness rows
       → TellsWires run wires → ((w : Wires) → IsFirstForm wires (points_in rows) w → ⊥) → Is 4 status ⊎ ((status ≡ 6) × (Failed run.harness ⊎ Failed run.wires))
-  -- 6 only where a read of one of the files failed
-  pub read_fault : status ≡ 6 → (Failed run.harness ⊎ Failed run.wires) × Closes run.sunk read_fault_line
+  -- 6 only where a read of one of the files failed; the wirelist is read for the check of continuity alone
+  pub read_fault : status ≡ 6 → (Failed run.harness ⊎ (AsksContinuity run.words × Failed run.wires)) × Closes run.sunk read_fault_line
   -- 14 exactly where there is no such unit
-  pub fixture_empty : status ≡ 14 → (rows : List HarnessRow) × (serial : List ℕ) × (attempt : ℕ) × IsContinuity run.words serial attempt × ((file : List ℕ) → TellsHarness run file → IsHarness file rows)
-      × (unit_rows (units_of rows) serial attempt ≡ None) × Closes run.sunk fixture_empty_line
+  pub fixture_empty : status ≡ 14 → (rows : List HarnessRow) × (serial : List ℕ) × (attempt : ℕ) × (IsContinuity run.words serial attempt ⊎ IsLearn run.words serial attempt)
+      × ((file : List ℕ) → TellsHarness run file → IsHarness file rows) × (unit_rows (units_of rows) serial attempt ≡ None) × Closes run.sunk fixture_empty_line
   pub empty_fixture : (rows : List HarnessRow) → AreInForm run rows None → Is 14 status ⊎ (((status ≡ 6) × (Failed run.harness ⊎ Failed run.wires)) ⊎ (status ≡ 15))
+  pub none_to_learn : (rows : List HarnessRow) → FindsUnit IsLearn run rows None → Is 14 status ⊎ (((status ≡ 6) × Failed run.harness) ⊎ (status ≡ 15))
   -- 15 only where the rig's faults rose, which were none
   pub rig_fault : status ≡ 15 → (sim : SimState) × (rig ≡ Some sim) × (0 < sim.state.faults) × Closes run.sunk rig_fault_line
   -- 0: the sink got exactly the text, and the trail has exactly the readings
-  pub checked : status ≡ 0 → (sim : SimState) × (trials : List Trial) × (rig ≡ Some sim) × IsChecked run sim trials × Wrote run.sunk (checked_text trials)
+  pub checked : status ≡ 0 → AsksContinuity run.words → (sim : SimState) × (trials : List Trial) × (rig ≡ Some sim) × IsChecked run sim trials × Wrote run.sunk (checked_text trials)
+  pub learned : status ≡ 0 → AsksLearn run.words → (sim : SimState) × (classes : List ℕ) × (rig ≡ Some sim) × HasLearned run sim classes × Wrote run.sunk (learned_text classes)
   -- 7 only where a write failed, in the text, after the last reading
-  pub write_fault : status ≡ 7 → (sim : SimState) × (trials : List Trial) × (rig ≡ Some sim) × IsChecked run sim trials × Rose run.sunk.faults run.sunk.faults_after × WroteSome run.sunk (checked_text trials)
+  pub write_fault : status ≡ 7 → AsksContinuity run.words → (sim : SimState) × (trials : List Trial) × (rig ≡ Some sim) × IsChecked run sim trials × Rose run.sunk.faults run.sunk.faults_after × WroteSome run.sunk (checked_text trials)
+  pub learn_write_fault : status ≡ 7 → AsksLearn run.words → (sim : SimState) × (classes : List ℕ) × (rig ≡ Some sim) × HasLearned run sim classes × Rose run.sunk.faults run.sunk.faults_after × WroteSome run.sunk (learned_text classes)
+  -- 0 and 7 come of a command alone
+  pub commanded : (status ≡ 0) ⊎ (status ≡ 7) → IsCommand run.words
   -- files in form, a unit that is there, no `fault` row and no count that rose: the text is written, unless memory runs out
-  pub complete : (rows : List HarnessRow) (elements : List Row) → AreInForm run rows (Some elements) → ((k : ℕ) → Contains rows (Fault k) → ⊥)
-      → (Failed run.harness → ⊥) → (Failed run.wires → ⊥) → (Rose run.sunk.faults run.sunk.faults_after → ⊥)
-      → ((sim : SimState) → rig ≡ Some sim → IsBelowLast sim.state.spent × IsBelowLast sim.state.seats) → Is 0 status
+  pub complete : (rows : List HarnessRow) (elements : List Row) → AreInForm run rows (Some elements) → (Failed run.wires → ⊥) → Undisturbed run rows rig → Is 0 status
+  pub complete_learning : (rows : List HarnessRow) (elements : List Row) → FindsUnit IsLearn run rows (Some elements) → Undisturbed run rows rig → Is 0 status
   -- the rig is handed out exactly where the harness file was read
   pub handed_out : (sim : SimState) → rig ≡ Some sim → IsCommand run.words × (rows : List HarnessRow) × ((file : List ℕ) → TellsHarness run file → IsHarness file rows)
   pub kept_back : rig ≡ None → IsCommand run.words → (file : List ℕ) (rows : List HarnessRow) → TellsHarness run file → IsHarness file rows → (status ≡ 9) ⊎ ((status ≡ 6) × Failed run.harness)

@@ -1,7 +1,7 @@
 -- A run of the program: what it is given, how it ends and what it leaves.
 --     Run                 what a run is given, and what its sources and its sink are after it
 --     Ends run status rig the ways in which a run ends, each with its cause, its status and its closing line
-use Rattle.std.specs.Prelude.{◌++◌, [], ℕ, List, Option, None, Some, codes, decimal, zip, unwrap_or}
+use Rattle.std.specs.Prelude.{◌≡◌, ◌++◌, [], ℕ, List, Option, None, Some, codes, decimal, zip, unwrap_or}
 use Rattle.base.specs.Causes.{Rose}
 use Rattle.bench_edge.specs.Whole.{TookFirst}
 use Rattle.partition.specs.NetTable.{NetTable}
@@ -12,9 +12,10 @@ use Rattle.rig_sim.specs.Harness.{IsHarness, IsRefused}
 use Rattle.rig_sim.specs.SimRig.{SimState, IsNew}
 use Rattle.first_form.specs.FirstForm.{Wires, IsFirstForm, Reads}
 use Rattle.continuity_check.specs.Compared.{compared_of}
-use Rattle.bench_cli.specs.Words.{IsContinuity, IsCommand}
+use Rattle.bench_cli.specs.Words.{IsContinuity, IsLearn, AsksContinuity, IsCommand}
 use Rattle.bench_cli.specs.Closing.{Sunk, Wrote, ClosesWith, usage_line, read_fault_line}
-use Rattle.bench_cli.specs.CheckEnds.{CheckEnds}
+use Rattle.bench_cli.specs.UnitEnds.{UnitEnds}
+use Rattle.bench_cli.specs.Findings.{ComparesAll, LearnsAll}
 
 -- the bytes that a source has left and its count of failed reads, before and after
 pub record Read : Type 0 where
@@ -73,15 +74,24 @@ pub record RefusesWires (wires : Read) (points : ℕ) : Type 0 where
   pub taken : TookFirst wires.left wires.left_after most_of_wires file
   pub none : (w : Wires) → IsFirstForm file points w → ⊥
 
+-- the source was not asked for its bytes
+pub record IsUnread (read : Read) : Type 0 where
+  pub left : read.left_after ≡ read.left
+  pub faults : read.faults_after ≡ read.faults
+
 -- In each of these ways the status may be 9 in place of its own, where memory ran out.
 pub data Ends (run : Run) : ℕ → Option SimState → Type 0 where
   no_command : {status : ℕ} → (IsCommand run.words → ⊥) → ClosesWith run.sunk usage_line 2 status → Ends run status None
   harness_fault : {status : ℕ} → IsCommand run.words → Rose run.harness.faults run.harness.faults_after → ClosesWith run.sunk read_fault_line 6 status → Ends run status None
   harness_refused : {status : ℕ} → IsCommand run.words → (refusal : HarnessRefusal) → RefusesHarness run.harness refusal → ClosesWith run.sunk (refusal_line refusal) 3 status → Ends run status None
   harness_memory : IsCommand run.words → Wrote run.sunk [] → Ends run 9 None
-  wires_fault : {status : ℕ} → IsCommand run.words → (sim : SimState) → TakesHarness run.harness sim → Rose run.wires.faults run.wires.faults_after → ClosesWith run.sunk read_fault_line 6 status → Ends run status (Some sim)
-  wires_refused : {status : ℕ} → IsCommand run.words → (sim : SimState) → TakesHarness run.harness sim → RefusesWires run.wires sim.state.points → ClosesWith run.sunk first_form_line 4 status → Ends run status (Some sim)
-  wires_memory : IsCommand run.words → (sim : SimState) → TakesHarness run.harness sim → Wrote run.sunk [] → Ends run 9 (Some sim)
+  -- the check of continuity reads the wirelist
+  wires_fault : {status : ℕ} → AsksContinuity run.words → (sim : SimState) → TakesHarness run.harness sim → Rose run.wires.faults run.wires.faults_after → ClosesWith run.sunk read_fault_line 6 status → Ends run status (Some sim)
+  wires_refused : {status : ℕ} → AsksContinuity run.words → (sim : SimState) → TakesHarness run.harness sim → RefusesWires run.wires sim.state.points → ClosesWith run.sunk first_form_line 4 status → Ends run status (Some sim)
+  wires_memory : AsksContinuity run.words → (sim : SimState) → TakesHarness run.harness sim → Wrote run.sunk [] → Ends run 9 (Some sim)
   -- both files were read, and the unit was looked for
   checked : {status attempt : ℕ} {serial : List ℕ} {names : List (List ℕ)} {nets : NetTable} → IsContinuity run.words serial attempt → (sim final : SimState) → TakesHarness run.harness sim
-      → TakesWires run.wires sim.state.points names nets → CheckEnds sim.state final.state serial attempt (compared_of (zip names nets.named)) run.sunk status → Ends run status (Some final)
+      → TakesWires run.wires sim.state.points names nets → UnitEnds (ComparesAll (compared_of (zip names nets.named))) sim.state final.state serial attempt run.sunk status → Ends run status (Some final)
+  -- learning leaves the wirelist alone
+  learned : {status attempt : ℕ} {serial : List ℕ} → IsLearn run.words serial attempt → (sim final : SimState) → TakesHarness run.harness sim → IsUnread run.wires
+      → UnitEnds LearnsAll sim.state final.state serial attempt run.sunk status → Ends run status (Some final)

@@ -5,8 +5,8 @@ ghost use Rattle.bench_edge.specs.Streams.{SameOtherHalf};
 ghost use Rattle.bench_cli.specs.Run.{refusal_line};
 ghost use Rattle.bench_cli.specs.Files.{HarnessIs, HarnessCloses, WiresAre, WiresClose, stop_of};
 
-use crate::check::closed;
 use crate::closing::status;
+use crate::unit::closed;
 use base::Memory;
 use bench_edge::{EdgeStop, Sink, Source, read_upto};
 use first_form::{FirstStop, FirstWires, read_first};

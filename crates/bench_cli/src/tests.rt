@@ -3,6 +3,7 @@
 use crate::{Ended, bench};
 use base::{Bytes, Counts, Text};
 use bench_edge::{MemSink, MemSource};
+use std::process::Abort;
 use std::test::Fail;
 
 const UNIT: &str = "continuity --serial SN1 --attempt 1";
@@ -64,90 +65,127 @@ fn ran(
     Ok((status, Bytes::from_slice(rt.alloc(), out.bytes())?))
 }
 
-#[test]
-fn each_ending_has_its_status_and_its_line(rt: HostRuntime) -> Result<(), Fail> {
-    let one_wire = "points 5\nunit SN1 1\nwire 0 1\nend\n";
-    let failing = "points 5\nfault 1\nunit SN1 1\nwire 0 1\nwire 2 3\nend\n";
-    let later = "points 5\nfault 2\nunit SN1 1\nwire 0 1\nwire 2 3\nend\n";
-    let off = "points 5\nunit SN1 1\nwire 0 5\nend\n";
-    for (line, harness, wires, status, text) in [
-        (UNIT, HARNESS, WIRES, 0, "PASS\n"),
-        (UNIT, one_wire, WIRES, 0, "open B 3\nFAIL 1\n"),
-        (
-            UNIT,
-            "points 5\nunit SN1 1\nend\n",
-            WIRES,
-            0,
-            "open A 1\nopen B 3\nFAIL 2\n",
-        ),
-        (
-            UNIT,
-            HARNESS,
-            "part,P1,1\npoints,5\nnet,A,1,4,0\n",
-            0,
-            "open A 4\nFAIL 1\n",
-        ),
-        (UNIT, HARNESS, "part,P1,1\npoints,5\n", 0, "PASS\n"),
-        (
-            "continuity --serial SN1 --attempt 2",
-            HARNESS,
-            WIRES,
-            14,
-            "fixture empty\n",
-        ),
-        (
-            "continuity --serial SN2 --attempt 1",
-            HARNESS,
-            WIRES,
-            14,
-            "fixture empty\n",
-        ),
-        (UNIT, failing, WIRES, 15, "rig fault\n"),
-        (UNIT, later, WIRES, 15, "rig fault\n"),
-        (UNIT, off, WIRES, 3, "harness refused 2 line 3\n"),
-        (UNIT, "points 5\n", WIRES, 3, "harness refused 5\n"),
-        (
-            UNIT,
-            HARNESS,
-            "part,P1,1\npoints,4\n",
-            4,
-            "wirelist not in the first form\n",
-        ),
-        (UNIT, off, "", 3, "harness refused 2 line 3\n"),
-        ("", HARNESS, WIRES, 2, USAGE),
-        ("continuity --serial SN1 --attempt 0", off, WIRES, 2, USAGE),
-        (
-            "continuity --serial SN1 --attempt 10",
-            HARNESS,
-            WIRES,
-            2,
-            USAGE,
-        ),
-        (
-            "continuity --serial -a --attempt 1",
-            HARNESS,
-            WIRES,
-            2,
-            USAGE,
-        ),
-        (
-            "continuity --serial SN1 --attempt 1 1",
-            HARNESS,
-            WIRES,
-            2,
-            USAGE,
-        ),
-        (
-            "continuity --attempt 1 --serial SN1",
-            HARNESS,
-            WIRES,
-            2,
-            USAGE,
-        ),
-    ] {
-        let (ended, wrote) = ran(&rt, line, harness.as_bytes(), wires.as_bytes(), NONE)?;
-        assert_eq!(rt; ended, status, "{line}: {harness}");
+/// The words of a run, its two files, its status and what it writes.
+type Run = (&'static str, &'static str, &'static str, u8, &'static str);
+
+const ONE_WIRE: &str = "points 5\nunit SN1 1\nwire 0 1\nend\n";
+
+const NO_WIRE: &str = "points 5\nunit SN1 1\nend\n";
+
+const FAILS_FIRST: &str = "points 5\nfault 1\nunit SN1 1\nwire 0 1\nwire 2 3\nend\n";
+
+const FAILS_SECOND: &str = "points 5\nfault 2\nunit SN1 1\nwire 0 1\nwire 2 3\nend\n";
+
+const OFF: &str = "points 5\nunit SN1 1\nwire 0 5\nend\n";
+
+const CROSSED: &str = "points 6\nunit SN1 1\nwire 0 5\nwire 1 4\nend\n";
+
+const OTHER: &str = "continuity --serial SN2 --attempt 1";
+
+const LATER: &str = "continuity --serial SN1 --attempt 2";
+
+const CHECKS: [Run; 13] = [
+    (UNIT, HARNESS, WIRES, 0, "PASS\n"),
+    (UNIT, ONE_WIRE, WIRES, 0, "open B 3\nFAIL 1\n"),
+    (UNIT, NO_WIRE, WIRES, 0, "open A 1\nopen B 3\nFAIL 2\n"),
+    (
+        UNIT,
+        HARNESS,
+        "part,P1,1\npoints,5\nnet,A,1,4,0\n",
+        0,
+        "open A 4\nFAIL 1\n",
+    ),
+    (UNIT, HARNESS, "part,P1,1\npoints,5\n", 0, "PASS\n"),
+    (LATER, HARNESS, WIRES, 14, "fixture empty\n"),
+    (OTHER, HARNESS, WIRES, 14, "fixture empty\n"),
+    (UNIT, FAILS_FIRST, WIRES, 15, "rig fault\n"),
+    (UNIT, FAILS_SECOND, WIRES, 15, "rig fault\n"),
+    (UNIT, OFF, WIRES, 3, "harness refused 2 line 3\n"),
+    (UNIT, OFF, "", 3, "harness refused 2 line 3\n"),
+    (UNIT, "points 5\n", WIRES, 3, "harness refused 5\n"),
+    (
+        UNIT,
+        HARNESS,
+        "part,P1,1\npoints,4\n",
+        4,
+        "wirelist not in the first form\n",
+    ),
+];
+
+const LEARN: &str = "learn --serial SN1 --attempt 1";
+
+const LEARNT: &str = "part,LEARNED,1\npoints,5\nnet,N1,0,1\nnet,N2,2,3\nattempts,3\n";
+
+const CROSSED_LEARNT: &str = "part,LEARNED,1\npoints,6\nnet,N1,0,5\nnet,N2,1,4\nattempts,3\n";
+
+const LEARNINGS: [Run; 9] = [
+    (LEARN, HARNESS, WIRES, 0, LEARNT),
+    (LEARN, HARNESS, "", 0, LEARNT),
+    (LEARN, CROSSED, WIRES, 0, CROSSED_LEARNT),
+    (
+        LEARN,
+        NO_WIRE,
+        "",
+        0,
+        "part,LEARNED,1\npoints,5\nattempts,3\n",
+    ),
+    (
+        "learn --serial SN1 --attempt 2",
+        HARNESS,
+        WIRES,
+        14,
+        "fixture empty\n",
+    ),
+    (
+        "learn --serial SN2 --attempt 1",
+        HARNESS,
+        WIRES,
+        14,
+        "fixture empty\n",
+    ),
+    (LEARN, FAILS_FIRST, WIRES, 15, "rig fault\n"),
+    (LEARN, FAILS_SECOND, WIRES, 15, "rig fault\n"),
+    (LEARN, OFF, WIRES, 3, "harness refused 2 line 3\n"),
+];
+
+/// Whether each run of a table ends as it says.
+fn each_ends(rt: &(impl AllocGlobal + Abort), runs: &[Run]) -> Result<(), Fail> {
+    for (line, harness, wires, status, text) in runs {
+        let (ended, wrote) = ran(rt, line, harness.as_bytes(), wires.as_bytes(), NONE)?;
+        assert_eq!(rt; ended, *status, "{line}: {harness}");
         assert_eq!(rt; wrote.as_slice(), text.as_bytes(), "{line}: {harness}");
+    }
+    Ok(())
+}
+
+#[test]
+fn each_ending_of_a_check_has_its_status_and_its_line(rt: HostRuntime) -> Result<(), Fail> {
+    each_ends(&rt, &CHECKS)
+}
+
+#[test]
+fn each_ending_of_learning_has_its_status_and_its_line(rt: HostRuntime) -> Result<(), Fail> {
+    each_ends(&rt, &LEARNINGS)
+}
+
+#[test]
+fn other_words_are_no_command(rt: HostRuntime) -> Result<(), Fail> {
+    for line in [
+        "",
+        "learn",
+        "learning --serial SN1 --attempt 1",
+        "continuity --serial SN1 --attempt 0",
+        "continuity --serial SN1 --attempt 10",
+        "learn --serial SN1 --attempt 10",
+        "continuity --serial -a --attempt 1",
+        "learn --serial -a --attempt 1",
+        "continuity --serial SN1 --attempt 1 1",
+        "continuity --attempt 1 --serial SN1",
+        "learn --attempt 1 --serial SN1",
+    ] {
+        let (ended, wrote) = ran(&rt, line, OFF.as_bytes(), WIRES.as_bytes(), NONE)?;
+        assert_eq!(rt; ended, 2, "{line}");
+        assert_eq!(rt; wrote.as_slice(), USAGE.as_bytes(), "{line}");
     }
     Ok(())
 }
@@ -209,6 +247,20 @@ fn a_cut_harness_is_refused(rt: HostRuntime) -> Result<(), Fail> {
             text_of_cut(n).as_bytes(),
             "cut after {n} bytes"
         );
+    }
+    Ok(())
+}
+
+#[test]
+fn learning_asks_the_wirelist_for_nothing(rt: HostRuntime) -> Result<(), Fail> {
+    for (failing, status, text) in [
+        (Failing { wires: 1, ..NONE }, 0, LEARNT),
+        (Failing { harness: 1, ..NONE }, 6, "read fault\n"),
+        (Failing { sink: 1, ..NONE }, 7, ""),
+    ] {
+        let (ended, wrote) = ran(&rt, LEARN, HARNESS.as_bytes(), WIRES.as_bytes(), failing)?;
+        assert_eq!(rt; ended, status);
+        assert_eq!(rt; wrote.as_slice(), text.as_bytes());
     }
     Ok(())
 }

@@ -1,14 +1,16 @@
 //! The top call.
 
 ghost use Rattle.std.specs.Prelude.{◌≡◌, ℕ, List, map, string_bytes};
-ghost use Rattle.bench_cli.specs.Words.{IsContinuity};
+ghost use Rattle.bench_cli.specs.Words.{IsContinuity, Asks};
 ghost use Rattle.bench_cli.specs.Run.{Read, TakesHarness, Ends};
 ghost use Rattle.bench_cli.specs.Promises.{IsRun};
 
-use crate::check::{Checked, check_unit, closed};
+use crate::check::check_unit;
 use crate::closing::status;
 use crate::files::{close_harness, close_wires, read_harness, read_wires};
-use crate::words::{Command, read_words};
+use crate::learning::learn_unit;
+use crate::unit::{UnitEnded, closed};
+use crate::words::{Command, UnitName, read_words};
 use bench_edge::{Sink, Source};
 use rig::Rig;
 use rig_sim::SimRig;
@@ -23,7 +25,8 @@ pub struct Ended {
     pub rig: Option<SimRig>,
 }
 
-/// Does what the words ask: reads the files, checks the unit and writes what was found, or why there is nothing to write.
+/// Does what the words ask: reads the files, makes the readings of the unit and writes what was found, or why there is nothing to write.
+#[tactic(auto, using(crate::proofs::IsRunFacts::is_run))]
 pub fn bench<H: Source, W: Source, O: Sink>(
     alloc: Global,
     words: &[String],
@@ -63,7 +66,7 @@ fn run<H: Source, W: Source, O: Sink>(
         };
     };
     match read_harness(alloc, harness) {
-        Ok(sim) => check(alloc, &command, sim, wires, out),
+        Ok(sim) => obey(alloc, &command, sim, wires, out),
         Err(stop) => Ended {
             status: close_harness(alloc, stop, out),
             rig: None,
@@ -71,8 +74,8 @@ fn run<H: Source, W: Source, O: Sink>(
     }
 }
 
-/// Reads the wirelist and checks the unit.
-fn check<W: Source, O: Sink>(
+/// Does what the command asks of the unit.
+fn obey<W: Source, O: Sink>(
     alloc: Global,
     command: &Command,
     sim: SimRig,
@@ -80,7 +83,35 @@ fn check<W: Source, O: Sink>(
     out: &mut O,
 ) -> Ended
     requires { sim.state.volts ≡ 0 }
-    ensures { (words : List (List ℕ)) (harness : Read) → IsContinuity words command.now.serial command.now.attempt → TakesHarness harness sim → Ends (record {
+    ensures { (words : List (List ℕ)) (harness : Read) → Asks words command.now → TakesHarness harness sim → Ends (record {
+      words = words;
+      harness = harness;
+      wires = record { left = W.left wires.old; left_after = W.left wires.new; faults = W.read_faults wires.old; faults_after = W.read_faults wires.new };
+      sunk = record { got = O.got out.old; got_after = O.got out.new; faults = O.write_faults out.old; faults_after = O.write_faults out.new };
+    }) result.status result.rig }
+{
+    match command {
+        Command::Continuity(unit) => check(alloc, unit, sim, wires, out),
+        Command::Learn(unit) => {
+            let UnitEnded { status, rig } = learn_unit(alloc, sim, unit, out);
+            Ended {
+                status,
+                rig: Some(rig),
+            }
+        }
+    }
+}
+
+/// Reads the wirelist and checks the unit.
+fn check<W: Source, O: Sink>(
+    alloc: Global,
+    unit: &UnitName,
+    sim: SimRig,
+    wires: &mut W,
+    out: &mut O,
+) -> Ended
+    requires { sim.state.volts ≡ 0 }
+    ensures { (words : List (List ℕ)) (harness : Read) → IsContinuity words unit.now.serial unit.now.attempt → TakesHarness harness sim → Ends (record {
       words = words;
       harness = harness;
       wires = record { left = W.left wires.old; left_after = W.left wires.new; faults = W.read_faults wires.old; faults_after = W.read_faults wires.new };
@@ -89,10 +120,10 @@ fn check<W: Source, O: Sink>(
 {
     match read_wires(alloc, wires, sim.points()) {
         Ok(read) => {
-            let Checked { status, rig } = check_unit(
+            let UnitEnded { status, rig } = check_unit(
                 alloc,
                 sim,
-                command,
+                unit,
                 read.names.as_slice(),
                 &read.nets,
                 out,

@@ -1,29 +1,35 @@
 //! The words after the program's name.
 
-ghost use Rattle.std.specs.Prelude.{◌≡◌, ◌↔◌, ℕ, IsTrue, List, map, string_bytes, IfSome, IfNone};
-ghost use Rattle.bench_cli.specs.Words.{IsContinuity};
+ghost use Rattle.std.specs.Prelude.{◌≡◌, ◌↔◌, IsTrue, map, string_bytes, IfSome, IfNone};
+ghost use Rattle.bench_cli.specs.Words.{Asks, IsCommand};
 
 use lines::read_number;
 use partition::Name;
 
-/// What the program is asked for: the check of the continuity of one attempt, from 1 to 9, of one serial.
+/// A unit as the words name it: one attempt, from 1 to 9, of one serial.
 #[derive(Clone, Copy, Debug)]
-pub struct Command {
+pub struct UnitName {
     pub serial: Name,
     pub attempt: u8,
 }
 
+/// What the program is asked for.
+#[derive(Clone, Copy, Debug)]
+pub enum Command {
+    /// The check of the unit's continuity.
+    Continuity(UnitName),
+    /// The wiring of the unit, learned.
+    Learn(UnitName),
+}
+
 /// The command that the words are, or None where they are none. Takes no memory.
 pub fn read_words(words: &[String]) -> Option<Command>
-    ensures some { IfSome result (λ c. IsContinuity (map string_bytes words.now) c.serial c.attempt) }
-    ensures none { IfNone result ((serial : List ℕ) (attempt : ℕ) → IsContinuity (map string_bytes words.now) serial attempt → ⊥) }
+    ensures some { IfSome result (Asks (map string_bytes words.now)) }
+    ensures none { IfNone result (IsCommand (map string_bytes words.now) → ⊥) }
 {
     let [command, serial_option, serial, attempt_option, attempt] = words else {
         return None;
     };
-    if !spells(command, "continuity") {
-        return None;
-    }
     if !spells(serial_option, "--serial") || !spells(attempt_option, "--attempt") {
         return None;
     }
@@ -33,10 +39,17 @@ pub fn read_words(words: &[String]) -> Option<Command>
     let Some(attempt) = read_number(attempt.as_bytes(), 1, 9) else {
         return None;
     };
-    Some(Command {
+    let unit = UnitName {
         serial,
         attempt: attempt as u8,
-    })
+    };
+    if spells(command, "continuity") {
+        return Some(Command::Continuity(unit));
+    }
+    if spells(command, "learn") {
+        return Some(Command::Learn(unit));
+    }
+    None
 }
 
 /// Whether a word is this text.

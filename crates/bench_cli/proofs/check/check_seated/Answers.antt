@@ -1,10 +1,13 @@
-use Rattle.std.proofs.Common.{ap}
-use Rattle.bench_cli.proofs.CheckLemmas.{print_ends, fault_ends, memory_ends}
+use Rattle.std.proofs.Common.{ap, refl}
+use Rattle.bench_cli.specs.Findings.{sheet_text}
+use Rattle.bench_cli.proofs.UnitLemmas.{print_ends, fault_ends, memory_ends}
 use Rattle.bench_cli.proofs.check.check_seated.Goals as goal
 
 pub returns-in-Ok : goal.returns-in-Ok
 returns-in-Ok g c =
-    print_ends _ _ _ _ (g.R.Rig.state c.into_rig.result) (ap g.R.Rig.state c.into_rig.ensures.rig) c.in-Ok.sheet c.print-status.result c.in-Ok.ensures.reads c.in-Ok.ensures.compares c.print-status.ensures
+    print_ends _ _ _ _ (g.R.Rig.state c.into_rig.result) (ap g.R.Rig.state c.into_rig.ensures.rig) (sheet_text c.in-Ok.sheet) c.print-status.result
+    (record { sheet = c.in-Ok.sheet; reads = c.in-Ok.ensures.reads; compares = c.in-Ok.ensures.compares; text_is = refl })
+    (c.print-status.ensures (sheet_text c.in-Ok.sheet) c.into_text.ensures)
 
 pub returns-in-Err-Failed : goal.returns-in-Err-Failed
 returns-in-Err-Failed g c =
@@ -13,5 +16,5 @@ returns-in-Err-Failed g c =
 
 pub returns-in-Err-Memory : goal.returns-in-Err-Memory
 returns-in-Err-Memory g c =
-    memory_ends (g.R.Rig.state c.into_rig-in-Err-Memory.result) (g.O.Stream.got c.args.out.now) (g.O.Stream.write_faults c.args.out.now) (ap g.R.Rig.state c.into_rig-in-Err-Memory.ensures.rig)
+    memory_ends _ _ _ (g.R.Rig.state c.into_rig-in-Err-Memory.result) _ (g.O.Stream.got c.args.out.now) (g.O.Stream.write_faults c.args.out.now) (ap g.R.Rig.state c.into_rig-in-Err-Memory.ensures.rig)
     (rw c.in-Err-Memory.field-0-is at c.in-Err-Memory.ensures.reads)
