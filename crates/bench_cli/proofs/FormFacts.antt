@@ -14,15 +14,16 @@ use Rattle.rig_sim.specs.Places.{points_in}
 use Rattle.rig_sim.specs.Units.{units_of, AreFaults}
 use Rattle.rig_sim.specs.SimRig.{SimState}
 use Rattle.rig_sim.proofs.LawLemmas.{harness_law}
-use Rattle.first_form.specs.FirstForm.{IsFirstForm}
+use Rattle.wirelist.specs.declared.program.Program.{Program}
+use Rattle.wirelist.specs.declared.refusal.WireRefusal.{WireRefusal}
 use Rattle.bench_cli.specs.Words.{NamesUnit, IsLearn}
-use Rattle.bench_cli.specs.Run.{Run, TakesHarness, RefusesHarness, RefusesWires}
+use Rattle.bench_cli.specs.Run.{Run, TakesHarness, RefusesHarness, TakesWires, RefusesWires}
 use Rattle.bench_cli.specs.Promises.{Failed, FindsUnit, AreInForm, Undisturbed, Is}
 use Rattle.bench_cli.proofs.SeatedLemmas.{is_seated, seat_holds, readings_hold, none_there}
 use Rattle.bench_cli.proofs.UnitWays.{UnitWay}
 use Rattle.bench_cli.proofs.UnitWays.UnitWay.{done, cut, absent, no_seat, no_reading, memory as unit_memory}
-use Rattle.bench_cli.proofs.RunLemmas.{Way, not_both, refusal_told, none_told, same_rows}
-use Rattle.bench_cli.proofs.RunLemmas.Way.{usage, fault, no_wires_read, refused, no_wires, unit, learning, memory}
+use Rattle.bench_cli.proofs.RunLemmas.{Way, not_both, not_both_ways, one_program, program_told, refusal_told, refused_told, same_rows, taken_points}
+use Rattle.bench_cli.proofs.RunLemmas.Way.{usage, fault, no_wires_read, refused, no_wires, other_points, unit, learning, memory}
 
 -- the one reading of the words
 same_words : (command : List ℕ) (words : List (List ℕ)) (s t : List ℕ) (a b : ℕ) → NamesUnit command words s a → NamesUnit command words t b → (s ≡ t) × (a ≡ b)
@@ -99,18 +100,22 @@ module _ (command : List ℕ) (run : Run) (status : ℕ) (rig : Option SimState)
 -- ---- by all ways of a run
 
 module _ (run : Run) (status : ℕ) (rig : Option SimState) (rows : List HarnessRow) where
-  not_formless : {looked : Option (List Row)} → AreInForm run rows looked → {sim : SimState} → TakesHarness run.harness sim → RefusesWires run.wires sim.state.points → ⊥
-  not_formless form takes refuses =
-      none_told takes refuses form.wires_file form.wires form.told_wires
-      (subst (λ (r : List HarnessRow). IsFirstForm form.wires_file (points_in r) form.wires) (sym (rows_are _ run status rig rows _ form.finds takes)) form.first_form)
+  not_refused_wires : {looked : Option (List Row)} → AreInForm run rows looked → {refusal : WireRefusal} → RefusesWires run.wires refusal → ⊥
+  not_refused_wires form {refusal} refuses = not_both_ways form.wires_file refusal form.p (refused_told refuses form.wires_file form.told_wires) form.wirelist
+
+  not_other_points : {looked : Option (List Row)} → AreInForm run rows looked → {sim : SimState} → TakesHarness run.harness sim → (p : Program) → TakesWires run.wires p → (p.nets.points ≡ sim.state.points → ⊥) → ⊥
+  not_other_points form takes p read other =
+      other (ap (λ (q : Program). q.nets.points) (one_program form.wires_file p form.p (program_told read form.wires_file form.told_wires) form.wirelist)
+      ∙ form.over ∙ ap points_in (sym (rows_are _ run status rig rows _ form.finds takes)) ∙ sym (taken_points takes))
 
   pub empty_fixture_fact : Way run status rig → AreInForm run rows None → Is 14 status ⊎ (((status ≡ 6) × (Failed run.harness ⊎ Failed run.wires)) ⊎ (status ≡ 15))
   empty_fixture_fact (usage is none line) form = absurd (none (inl (form.finds.serial, form.finds.attempt, form.finds.words)))
   empty_fixture_fact (fault is command rose line) form = inr (inl (is, inl rose))
   empty_fixture_fact (no_wires_read is asked sim takes rose line) form = inr (inl (is, inr rose))
   empty_fixture_fact (refused is command refusal refuses line) form = absurd (not_refused _ run status rig rows None form.finds refuses)
-  empty_fixture_fact (no_wires is asked sim takes refuses line) form = absurd (not_formless form takes refuses)
-  empty_fixture_fact (unit words sim final out takes wires ends) form = elim (empty_ends _ run status rig rows form.finds sim final words takes ends) [ inl is ↦ inl is | inr is ↦ inr (inr is) ]
+  empty_fixture_fact (no_wires is asked sim takes refusal refuses line) form = absurd (not_refused_wires form refuses)
+  empty_fixture_fact (other_points is asked sim takes p wires other line) form = absurd (not_other_points form takes p wires other)
+  empty_fixture_fact (unit words sim final out takes p wires same ends) form = elim (empty_ends _ run status rig rows form.finds sim final words takes ends) [ inl is ↦ inl is | inr is ↦ inr (inr is) ]
   empty_fixture_fact (learning words sim final out takes unread ends) form = absurd (not_both run.words _ _ _ _ form.finds.words words)
   empty_fixture_fact (memory is decided) form = inl (inr is)
 
@@ -119,8 +124,9 @@ module _ (run : Run) (status : ℕ) (rig : Option SimState) (rows : List Harness
   none_to_learn_fact (fault is command rose line) form = inr (inl (is, rose))
   none_to_learn_fact (no_wires_read is asked sim takes rose line) form = absurd (not_both run.words _ _ _ _ asked.2 form.words)
   none_to_learn_fact (refused is command refusal refuses line) form = absurd (not_refused _ run status rig rows None form refuses)
-  none_to_learn_fact (no_wires is asked sim takes refuses line) form = absurd (not_both run.words _ _ _ _ asked.2 form.words)
-  none_to_learn_fact (unit words sim final out takes wires ends) form = absurd (not_both run.words _ _ _ _ words form.words)
+  none_to_learn_fact (no_wires is asked sim takes refusal refuses line) form = absurd (not_both run.words _ _ _ _ asked.2 form.words)
+  none_to_learn_fact (other_points is asked sim takes p wires other line) form = absurd (not_both run.words _ _ _ _ asked.2 form.words)
+  none_to_learn_fact (unit words sim final out takes p wires same ends) form = absurd (not_both run.words _ _ _ _ words form.words)
   none_to_learn_fact (learning words sim final out takes unread ends) form = elim (empty_ends _ run status rig rows form sim final words takes ends) [ inl is ↦ inl is | inr is ↦ inr (inr is) ]
   none_to_learn_fact (memory is decided) form = inl (inr is)
 
@@ -129,8 +135,9 @@ module _ (run : Run) (status : ℕ) (rig : Option SimState) (rows : List Harness
   complete_fact (fault is command rose line) elements form read calm = absurd (calm.harness_read rose)
   complete_fact (no_wires_read is asked sim takes rose line) elements form read calm = absurd (read rose)
   complete_fact (refused is command refusal refuses line) elements form read calm = absurd (not_refused _ run status rig rows (Some elements) form.finds refuses)
-  complete_fact (no_wires is asked sim takes refuses line) elements form read calm = absurd (not_formless form takes refuses)
-  complete_fact (unit words sim final out takes wires ends) elements form read calm = complete_ends _ run status rig rows elements form.finds calm sim final words out takes ends
+  complete_fact (no_wires is asked sim takes refusal refuses line) elements form read calm = absurd (not_refused_wires form refuses)
+  complete_fact (other_points is asked sim takes p wires other line) elements form read calm = absurd (not_other_points form takes p wires other)
+  complete_fact (unit words sim final out takes p wires same ends) elements form read calm = complete_ends _ run status rig rows elements form.finds calm sim final words out takes ends
   complete_fact (learning words sim final out takes unread ends) elements form read calm = absurd (not_both run.words _ _ _ _ form.finds.words words)
   complete_fact (memory is decided) elements form read calm = inr is
 
@@ -139,7 +146,8 @@ module _ (run : Run) (status : ℕ) (rig : Option SimState) (rows : List Harness
   complete_learning_fact (fault is command rose line) elements form calm = absurd (calm.harness_read rose)
   complete_learning_fact (no_wires_read is asked sim takes rose line) elements form calm = absurd (not_both run.words _ _ _ _ asked.2 form.words)
   complete_learning_fact (refused is command refusal refuses line) elements form calm = absurd (not_refused _ run status rig rows (Some elements) form refuses)
-  complete_learning_fact (no_wires is asked sim takes refuses line) elements form calm = absurd (not_both run.words _ _ _ _ asked.2 form.words)
-  complete_learning_fact (unit words sim final out takes wires ends) elements form calm = absurd (not_both run.words _ _ _ _ words form.words)
+  complete_learning_fact (no_wires is asked sim takes refusal refuses line) elements form calm = absurd (not_both run.words _ _ _ _ asked.2 form.words)
+  complete_learning_fact (other_points is asked sim takes p wires other line) elements form calm = absurd (not_both run.words _ _ _ _ asked.2 form.words)
+  complete_learning_fact (unit words sim final out takes p wires same ends) elements form calm = absurd (not_both run.words _ _ _ _ words form.words)
   complete_learning_fact (learning words sim final out takes unread ends) elements form calm = complete_ends _ run status rig rows elements form calm sim final words out takes ends
   complete_learning_fact (memory is decided) elements form calm = inr is

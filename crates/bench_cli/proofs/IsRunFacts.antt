@@ -5,10 +5,10 @@ use Rattle.rig_sim.specs.Harness.{IsHarness}
 use Rattle.rig_sim.specs.SimRig.{SimState}
 use Rattle.bench_cli.specs.Words.{IsCommand}
 use Rattle.bench_cli.specs.Run.{Run, Ends}
-use Rattle.bench_cli.specs.Run.Ends.{no_command, harness_fault, harness_refused, harness_memory, wires_fault, wires_refused, wires_memory, checked, learned}
+use Rattle.bench_cli.specs.Run.Ends.{no_command, harness_fault, harness_refused, harness_memory, wires_fault, wires_refused, wires_memory, points_differ, checked, learned}
 use Rattle.bench_cli.specs.Promises.{TellsHarness, Failed, IsRun}
 use Rattle.rig_sim.proofs.LawLemmas.{harness_law}
-use Rattle.bench_cli.proofs.RunLemmas.{way, harness_told, refusal_told, no_command_fact, usage_fact, harness_refused_fact, refused_harness_fact, wires_refused_fact, refused_wires_fact, read_fault_fact}
+use Rattle.bench_cli.proofs.RunLemmas.{way, harness_told, refusal_told, no_command_fact, usage_fact, harness_refused_fact, refused_harness_fact, wires_refused_fact, refused_wires_fact, points_differ_fact, differing_points_fact, read_fault_fact}
 use Rattle.bench_cli.proofs.UnitFacts.{checked_fact, learned_fact, write_fault_fact, learn_write_fault_fact, commanded_fact, fixture_empty_fact, rig_fault_fact}
 use Rattle.bench_cli.proofs.FormFacts.{empty_fixture_fact, none_to_learn_fact, complete_fact, complete_learning_fact}
 
@@ -22,9 +22,10 @@ module _ (run : Run) where
   handed_out_fact status rig (harness_refused command refusal refuses line) sim out = cc
   handed_out_fact status rig (harness_memory command wrote) sim out = cc
   handed_out_fact status rig (wires_fault asked new takes rose line) sim out = (inl asked, takes.rows, harness_told takes)
-  handed_out_fact status rig (wires_refused asked new takes refuses line) sim out = (inl asked, takes.rows, harness_told takes)
+  handed_out_fact status rig (wires_refused asked new takes refusal refuses line) sim out = (inl asked, takes.rows, harness_told takes)
+  handed_out_fact status rig (points_differ asked new takes p wires other line) sim out = (inl asked, takes.rows, harness_told takes)
   handed_out_fact status rig (wires_memory asked new takes wrote) sim out = (inl asked, takes.rows, harness_told takes)
-  handed_out_fact status rig (checked {attempt = attempt} {serial = serial} words new final takes wires ends) sim out = (inl (serial, attempt, words), takes.rows, harness_told takes)
+  handed_out_fact status rig (checked {attempt = attempt} {serial = serial} words new final takes p wires same ends) sim out = (inl (serial, attempt, words), takes.rows, harness_told takes)
   handed_out_fact status rig (learned {attempt = attempt} {serial = serial} words new final takes unread ends) sim out = (inr (serial, attempt, words), takes.rows, harness_told takes)
 
   abbrev KeptFact : ℕ → Type 0
@@ -37,9 +38,10 @@ module _ (run : Run) where
   kept_back_fact status rig (harness_refused given refusal refuses line) out command file rows told is = absurd ((harness_law file).apart rows refusal is (refusal_told refuses file told))
   kept_back_fact status rig (harness_memory given wrote) out command file rows told is = inl refl
   kept_back_fact status rig (wires_fault given new takes rose line) out command file rows told is = cc
-  kept_back_fact status rig (wires_refused given new takes refuses line) out command file rows told is = cc
+  kept_back_fact status rig (wires_refused given new takes refusal refuses line) out command file rows told is = cc
+  kept_back_fact status rig (points_differ given new takes p wires other line) out command file rows told is = cc
   kept_back_fact status rig (wires_memory given new takes wrote) out command file rows told is = cc
-  kept_back_fact status rig (checked words new final takes wires ends) out command file rows told is = cc
+  kept_back_fact status rig (checked words new final takes p wires same ends) out command file rows told is = cc
   kept_back_fact status rig (learned words new final takes unread ends) out command file rows told is = cc
 
   pub is_run : (status : ℕ) (rig : Option SimState) → Ends run status rig → IsRun run status rig
@@ -53,6 +55,8 @@ module _ (run : Run) where
         refused_harness = refused_harness_fact run status rig by;
         wires_refused = wires_refused_fact run status rig by;
         refused_wires = refused_wires_fact run status rig by;
+        points_differ = points_differ_fact run status rig by;
+        differing_points = differing_points_fact run status rig by;
         read_fault = read_fault_fact run status rig by;
         fixture_empty = fixture_empty_fact run status rig by;
         empty_fixture = λ rows form. empty_fixture_fact run status rig rows by form;

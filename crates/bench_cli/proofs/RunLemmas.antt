@@ -1,23 +1,24 @@
 -- What a run promises follows from the way in which it ended.
-use Rattle.std.proofs.Common.{◌≡◌, ◌≢◌, ◌⊎◌, inl, inr, ℕ, List, [], get_or, Option, Some, refl, sym, ◌∙◌, ap, subst, arith}
+use Rattle.std.proofs.Common.{◌≡◌, ◌≢◌, ◌⊎◌, inl, inr, ℕ, List, [], get_or, slice_get, Option, Some, refl, sym, ◌∙◌, ap, subst, arith}
 use Rattle.std.specs.Prelude.{zip, codes}
 use Rattle.bench_edge.specs.Whole.{TookFirst}
 use Rattle.bench_edge.proofs.Calls.{TookFirst-told}
-use Rattle.partition.specs.NetTable.{NetTable}
 use Rattle.rig_sim.specs.declared.row.HarnessRow.{HarnessRow}
 use Rattle.rig_sim.specs.declared.refusal.HarnessRefusal.{HarnessRefusal}
 use Rattle.rig_sim.specs.Places.{points_in}
 use Rattle.rig_sim.specs.Harness.{IsHarness, IsRefused}
 use Rattle.rig_sim.specs.SimRig.{SimState}
 use Rattle.rig_sim.proofs.LawLemmas.{harness_law}
-use Rattle.first_form.specs.FirstForm.{Wires, IsFirstForm, Reads}
+use Rattle.wirelist.specs.declared.program.Program.{Program}
+use Rattle.wirelist.specs.declared.refusal.WireRefusal.{WireRefusal}
 use Rattle.continuity_check.specs.Compared.{compared_of}
 use Rattle.bench_cli.specs.Words.{IsContinuity, IsLearn, AsksContinuity, IsCommand}
 use Rattle.bench_cli.specs.Closing.{Closes, ClosesWith, usage_line, read_fault_line}
 use Rattle.bench_cli.proofs.UnitWays.{UnitWay, unit_way, at_work}
 use Rattle.bench_cli.specs.Findings.{ComparesAll, LearnsAll}
-use Rattle.bench_cli.specs.Run.{Read, Run, IsUnread, TakesHarness, RefusesHarness, TakesWires, RefusesWires, Ends, most_of_harness, most_of_wires, refusal_line, first_form_line}
-use Rattle.bench_cli.specs.Run.Ends.{no_command, harness_fault, harness_refused, harness_memory, wires_fault, wires_refused, wires_memory, checked, learned}
+use Rattle.bench_cli.specs.Run.{Read, Run, IsUnread, TakesHarness, RefusesHarness, TakesWires, RefusesWires, Ends, most_of_harness, most_of_wires, refusal_line}
+use Rattle.bench_cli.specs.Wires.{IsWirelist, first_refusal, wires_refusal_line, points_differ_line}
+use Rattle.bench_cli.specs.Run.Ends.{no_command, harness_fault, harness_refused, harness_memory, wires_fault, wires_refused, wires_memory, points_differ, checked, learned}
 use Rattle.bench_cli.specs.Promises.{Tells, TellsHarness, TellsWires, Failed, Is}
 use Rattle.bench_cli.proofs.SeatedLemmas.{points_are}
 
@@ -39,9 +40,11 @@ pub data Way (run : Run) (status : ℕ) (rig : Option SimState) : Type 0 where
   fault : status ≡ 6 → IsCommand run.words → Failed run.harness → Closes run.sunk read_fault_line → Way run status rig
   no_wires_read : status ≡ 6 → AsksContinuity run.words → (sim : SimState) → TakesHarness run.harness sim → Failed run.wires → Closes run.sunk read_fault_line → Way run status rig
   refused : status ≡ 3 → IsCommand run.words → (refusal : HarnessRefusal) → RefusesHarness run.harness refusal → Closes run.sunk (refusal_line refusal) → Way run status rig
-  no_wires : status ≡ 4 → AsksContinuity run.words → (sim : SimState) → TakesHarness run.harness sim → RefusesWires run.wires sim.state.points → Closes run.sunk first_form_line → Way run status rig
-  unit : {attempt : ℕ} {serial : List ℕ} {names : List (List ℕ)} {nets : NetTable} → IsContinuity run.words serial attempt → (sim final : SimState) → rig ≡ Some final → TakesHarness run.harness sim
-      → TakesWires run.wires sim.state.points names nets → UnitWay (ComparesAll (compared_of (zip names nets.named))) sim.state final.state serial attempt run.sunk status → Way run status rig
+  no_wires : status ≡ 4 → AsksContinuity run.words → (sim : SimState) → TakesHarness run.harness sim → (refusal : WireRefusal) → RefusesWires run.wires refusal → Closes run.sunk (wires_refusal_line refusal) → Way run status rig
+  other_points : status ≡ 13 → AsksContinuity run.words → (sim : SimState) → TakesHarness run.harness sim → (p : Program) → TakesWires run.wires p → p.nets.points ≢ sim.state.points
+      → Closes run.sunk (points_differ_line sim.state.points p.nets.points) → Way run status rig
+  unit : {attempt : ℕ} {serial : List ℕ} → IsContinuity run.words serial attempt → (sim final : SimState) → rig ≡ Some final → TakesHarness run.harness sim
+      → (p : Program) → TakesWires run.wires p → p.nets.points ≡ sim.state.points → UnitWay (ComparesAll (compared_of (zip p.names p.nets.named))) sim.state final.state serial attempt run.sunk status → Way run status rig
   learning : {attempt : ℕ} {serial : List ℕ} → IsLearn run.words serial attempt → (sim final : SimState) → rig ≡ Some final → TakesHarness run.harness sim → IsUnread run.wires
       → UnitWay LearnsAll sim.state final.state serial attempt run.sunk status → Way run status rig
   memory : status ≡ 9 → (IsCommand run.words → ⊥) ⊎ IsCommand run.words → Way run status rig
@@ -59,9 +62,10 @@ way run status rig (harness_fault command rose line) = close_way _ (inr command)
 way run status rig (harness_refused command refusal refuses line) = close_way _ (inr command) line (λ is closes. refused is command refusal refuses closes)
 way run status rig (harness_memory command wrote) = memory refl (inr command)
 way run status rig (wires_fault asked sim takes rose line) = close_way _ (inr (inl asked)) line (λ is closes. no_wires_read is asked sim takes rose closes)
-way run status rig (wires_refused asked sim takes refuses line) = close_way _ (inr (inl asked)) line (λ is closes. no_wires is asked sim takes refuses closes)
+way run status rig (wires_refused asked sim takes refusal refuses line) = close_way _ (inr (inl asked)) line (λ is closes. no_wires is asked sim takes refusal refuses closes)
+way run status rig (points_differ asked sim takes p wires other line) = close_way _ (inr (inl asked)) line (λ is closes. other_points is asked sim takes p wires other closes)
 way run status rig (wires_memory asked sim takes wrote) = memory refl (inr (inl asked))
-way run status rig (checked {attempt = attempt} {serial = serial} words sim final takes wires ends) = unit words sim final refl takes wires (unit_way _ sim.state final.state serial attempt run.sunk status ends)
+way run status rig (checked {attempt = attempt} {serial = serial} words sim final takes p wires same ends) = unit words sim final refl takes p wires same (unit_way _ sim.state final.state serial attempt run.sunk status ends)
 way run status rig (learned {attempt = attempt} {serial = serial} words sim final takes unread ends) = learning words sim final refl takes unread (unit_way LearnsAll sim.state final.state serial attempt run.sunk status ends)
 
 -- ---- what is told of the files
@@ -76,16 +80,24 @@ same_rows takes file rows told is = (harness_law file).one_reading takes.rows ro
 pub refusal_told : {read : Read} {refusal : HarnessRefusal} (refuses : RefusesHarness read refusal) (file : List ℕ) → Tells read most_of_harness file → IsRefused file refusal
 refusal_told {read} {refusal} refuses file told = subst (λ (f : List ℕ). IsRefused f refusal) (told_file read most_of_harness refuses.file file refuses.taken told) refuses.is_refused
 
-taken_points : {read : Read} {sim : SimState} (takes : TakesHarness read sim) → sim.state.points ≡ points_in takes.rows
+pub taken_points : {read : Read} {sim : SimState} (takes : TakesHarness read sim) → sim.state.points ≡ points_in takes.rows
 taken_points {read} {sim} takes = points_are takes.rows sim takes.is_new
 
-pub none_told : {read wires : Read} {sim : SimState} (takes : TakesHarness read sim) → RefusesWires wires sim.state.points → (file : List ℕ) (w : Wires) → Tells wires most_of_wires file → IsFirstForm file (points_in takes.rows) w → ⊥
-none_told {read} {wires} {sim} takes refuses file w told is =
-    refuses.none w (subst (λ (n : ℕ). IsFirstForm refuses.file n w) (sym (taken_points takes)) (subst (λ (f : List ℕ). IsFirstForm f (points_in takes.rows) w) (sym (told_file wires most_of_wires refuses.file file refuses.taken told)) is))
+pub refused_told : {wires : Read} {refusal : WireRefusal} (refuses : RefusesWires wires refusal) (file : List ℕ) → Tells wires most_of_wires file → first_refusal file ≡ Some refusal
+refused_told {wires} {refusal} refuses file told = subst (λ (f : List ℕ). first_refusal f ≡ Some refusal) (told_file wires most_of_wires refuses.file file refuses.taken told) refuses.first
 
-pub reads_told : {read wires : Read} {sim : SimState} {names : List (List ℕ)} {nets : NetTable} (takes : TakesHarness read sim) → TakesWires wires sim.state.points names nets → (file : List ℕ) → Tells wires most_of_wires file → Reads file (points_in takes.rows) names nets
-reads_told {read} {wires} {sim} {names} {nets} takes taken file told =
-    subst (λ (n : ℕ). Reads file n names nets) (taken_points takes) (subst (λ (f : List ℕ). Reads f sim.state.points names nets) (told_file wires most_of_wires taken.file file taken.taken told) taken.reads)
+pub program_told : {wires : Read} {p : Program} (taken : TakesWires wires p) (file : List ℕ) → Tells wires most_of_wires file → IsWirelist file p
+program_told {wires} {p} taken file told = subst (λ (f : List ℕ). IsWirelist f p) (told_file wires most_of_wires taken.file file taken.taken told) taken.is_wirelist
+
+-- a file is refused or says one program
+pub not_both_ways : (file : List ℕ) (refusal : WireRefusal) (p : Program) → first_refusal file ≡ Some refusal → IsWirelist file p → ⊥
+not_both_ways file refusal p first is = nothing refusal (sym (ap (λ (faults : List WireRefusal). slice_get faults 0) is.faultless) ∙ first)
+  where
+    nothing : (e : WireRefusal) → slice_get {X = WireRefusal} [] 0 ≡ Some e → ⊥
+    nothing e none = cc
+
+pub one_program : (file : List ℕ) (p q : Program) → IsWirelist file p → IsWirelist file q → p ≡ q
+one_program file p q one other = one.says ∙ sym other.says
 
 -- ---- the facts, each by the ways
 
@@ -95,8 +107,9 @@ module _ (run : Run) (status : ℕ) (rig : Option SimState) where
   no_command_fact (fault is command rose line) at = absurd (omega arith)
   no_command_fact (no_wires_read is asked sim takes rose line) at = absurd (omega arith)
   no_command_fact (refused is command refusal refuses line) at = absurd (omega arith)
-  no_command_fact (no_wires is asked sim takes refuses line) at = absurd (omega arith)
-  no_command_fact (unit words sim final out takes wires ends) at = absurd ((at_work ends).0 at)
+  no_command_fact (no_wires is asked sim takes refusal refuses line) at = absurd (omega arith)
+  no_command_fact (other_points is asked sim takes p wires other line) at = absurd (omega arith)
+  no_command_fact (unit words sim final out takes p wires same ends) at = absurd ((at_work ends).0 at)
   no_command_fact (learning words sim final out takes unread ends) at = absurd ((at_work ends).0 at)
   no_command_fact (memory is decided) at = absurd (omega arith)
 
@@ -105,8 +118,9 @@ module _ (run : Run) (status : ℕ) (rig : Option SimState) where
   usage_fact (fault is command rose line) no_one = absurd (no_one command)
   usage_fact (no_wires_read is asked sim takes rose line) no_one = absurd (no_one (inl asked))
   usage_fact (refused is command refusal refuses line) no_one = absurd (no_one command)
-  usage_fact (no_wires is asked sim takes refuses line) no_one = absurd (no_one (inl asked))
-  usage_fact (unit {attempt = attempt} {serial = serial} words sim final out takes wires ends) no_one = absurd (no_one (inl (serial, attempt, words)))
+  usage_fact (no_wires is asked sim takes refusal refuses line) no_one = absurd (no_one (inl asked))
+  usage_fact (other_points is asked sim takes p wires other line) no_one = absurd (no_one (inl asked))
+  usage_fact (unit {attempt = attempt} {serial = serial} words sim final out takes p wires same ends) no_one = absurd (no_one (inl (serial, attempt, words)))
   usage_fact (learning {attempt = attempt} {serial = serial} words sim final out takes unread ends) no_one = absurd (no_one (inr (serial, attempt, words)))
   usage_fact (memory is decided) no_one = inr is
 
@@ -115,8 +129,9 @@ module _ (run : Run) (status : ℕ) (rig : Option SimState) where
   harness_refused_fact (fault is command rose line) at = absurd (omega arith)
   harness_refused_fact (no_wires_read is asked sim takes rose line) at = absurd (omega arith)
   harness_refused_fact (refused is command refusal refuses line) at = (command, refusal, refusal_told refuses, line)
-  harness_refused_fact (no_wires is asked sim takes refuses line) at = absurd (omega arith)
-  harness_refused_fact (unit words sim final out takes wires ends) at = absurd ((at_work ends).1 at)
+  harness_refused_fact (no_wires is asked sim takes refusal refuses line) at = absurd (omega arith)
+  harness_refused_fact (other_points is asked sim takes p wires other line) at = absurd (omega arith)
+  harness_refused_fact (unit words sim final out takes p wires same ends) at = absurd ((at_work ends).1 at)
   harness_refused_fact (learning words sim final out takes unread ends) at = absurd ((at_work ends).1 at)
   harness_refused_fact (memory is decided) at = absurd (omega arith)
 
@@ -125,67 +140,96 @@ module _ (run : Run) (status : ℕ) (rig : Option SimState) where
   refused_harness_fact (fault is given rose line) command file refusal told is_refused = inr (is, rose)
   refused_harness_fact (no_wires_read is asked sim takes rose line) command file refusal told is_refused = absurd ((harness_law file).apart takes.rows refusal (harness_told takes file told) is_refused)
   refused_harness_fact (refused is given why refuses line) command file refusal told is_refused = inl (inl is)
-  refused_harness_fact (no_wires is asked sim takes refuses line) command file refusal told is_refused = absurd ((harness_law file).apart takes.rows refusal (harness_told takes file told) is_refused)
-  refused_harness_fact (unit words sim final out takes wires ends) command file refusal told is_refused = absurd ((harness_law file).apart takes.rows refusal (harness_told takes file told) is_refused)
+  refused_harness_fact (no_wires is asked sim takes why refuses line) command file refusal told is_refused = absurd ((harness_law file).apart takes.rows refusal (harness_told takes file told) is_refused)
+  refused_harness_fact (other_points is asked sim takes p wires other line) command file refusal told is_refused = absurd ((harness_law file).apart takes.rows refusal (harness_told takes file told) is_refused)
+  refused_harness_fact (unit words sim final out takes p wires same ends) command file refusal told is_refused = absurd ((harness_law file).apart takes.rows refusal (harness_told takes file told) is_refused)
   refused_harness_fact (learning words sim final out takes unread ends) command file refusal told is_refused = absurd ((harness_law file).apart takes.rows refusal (harness_told takes file told) is_refused)
   refused_harness_fact (memory is decided) command file refusal told is_refused = inl (inr is)
 
   pub wires_refused_fact : Way run status rig → status ≡ 4 → AsksContinuity run.words × (rows : List HarnessRow) × ((file : List ℕ) → TellsHarness run file → IsHarness file rows)
-      × ((file : List ℕ) (w : Wires) → TellsWires run file → IsFirstForm file (points_in rows) w → ⊥) × Closes run.sunk first_form_line
+      × (refusal : WireRefusal) × ((file : List ℕ) → TellsWires run file → first_refusal file ≡ Some refusal) × Closes run.sunk (wires_refusal_line refusal)
   wires_refused_fact (usage is none line) at = absurd (omega arith)
   wires_refused_fact (fault is command rose line) at = absurd (omega arith)
   wires_refused_fact (no_wires_read is asked sim takes rose line) at = absurd (omega arith)
   wires_refused_fact (refused is command refusal refuses line) at = absurd (omega arith)
-  wires_refused_fact (no_wires is asked sim takes refuses line) at = (asked, takes.rows, harness_told takes, none_told takes refuses, line)
-  wires_refused_fact (unit words sim final out takes wires ends) at = absurd ((at_work ends).2 at)
+  wires_refused_fact (no_wires is asked sim takes refusal refuses line) at = (asked, takes.rows, harness_told takes, refusal, refused_told refuses, line)
+  wires_refused_fact (other_points is asked sim takes p wires other line) at = absurd (omega arith)
+  wires_refused_fact (unit words sim final out takes p wires same ends) at = absurd ((at_work ends).2 at)
   wires_refused_fact (learning words sim final out takes unread ends) at = absurd ((at_work ends).2 at)
   wires_refused_fact (memory is decided) at = absurd (omega arith)
 
-  -- nets were read of a file that has none
-  no_reads : (sim : SimState) (takes : TakesHarness run.harness sim) (harness wires : List ℕ) (rows : List HarnessRow) {names : List (List ℕ)} {nets : NetTable} → TellsHarness run harness → IsHarness harness rows
-      → TellsWires run wires → ((w : Wires) → IsFirstForm wires (points_in rows) w → ⊥) → TakesWires run.wires sim.state.points names nets → ⊥
-  no_reads sim takes harness wires rows {names} {nets} told is told_wires none read =
-      let reads = subst (λ (r : List HarnessRow). Reads wires (points_in r) names nets) (same_rows takes harness rows told is) (reads_told takes read wires told_wires) in
-      none reads.wires reads.first_form
+  pub refused_wires_fact : Way run status rig → AsksContinuity run.words → (harness file : List ℕ) (rows : List HarnessRow) (refusal : WireRefusal) → TellsHarness run harness → IsHarness harness rows
+      → TellsWires run file → first_refusal file ≡ Some refusal → Is 4 status ⊎ ((status ≡ 6) × (Failed run.harness ⊎ Failed run.wires))
+  refused_wires_fact (usage is none line) asks harness file rows refusal told is_harness told_wires first = absurd (none (inl asks))
+  refused_wires_fact (fault is given rose line) asks harness file rows refusal told is_harness told_wires first = inr (is, inl rose)
+  refused_wires_fact (no_wires_read is asked sim takes rose line) asks harness file rows refusal told is_harness told_wires first = inr (is, inr rose)
+  refused_wires_fact (refused is given why refuses line) asks harness file rows refusal told is_harness told_wires first = absurd ((harness_law harness).apart rows why is_harness (refusal_told refuses harness told))
+  refused_wires_fact (no_wires is asked sim takes why refuses line) asks harness file rows refusal told is_harness told_wires first = inl (inl is)
+  refused_wires_fact (other_points is asked sim takes p read other line) asks harness file rows refusal told is_harness told_wires first = absurd (not_both_ways file refusal p first (program_told read file told_wires))
+  refused_wires_fact (unit words sim final out takes p read same ends) asks harness file rows refusal told is_harness told_wires first = absurd (not_both_ways file refusal p first (program_told read file told_wires))
+  refused_wires_fact (learning words sim final out takes unread ends) asks harness file rows refusal told is_harness told_wires first = absurd (not_both run.words _ _ _ _ asks.2 words)
+  refused_wires_fact (memory is decided) asks harness file rows refusal told is_harness told_wires first = inl (inr is)
 
-  pub refused_wires_fact : Way run status rig → AsksContinuity run.words → (harness wires : List ℕ) (rows : List HarnessRow) → TellsHarness run harness → IsHarness harness rows
-      → TellsWires run wires → ((w : Wires) → IsFirstForm wires (points_in rows) w → ⊥) → Is 4 status ⊎ ((status ≡ 6) × (Failed run.harness ⊎ Failed run.wires))
-  refused_wires_fact (usage is none line) asks harness wires rows told is_harness told_wires no_form = absurd (none (inl asks))
-  refused_wires_fact (fault is given rose line) asks harness wires rows told is_harness told_wires no_form = inr (is, inl rose)
-  refused_wires_fact (no_wires_read is asked sim takes rose line) asks harness wires rows told is_harness told_wires no_form = inr (is, inr rose)
-  refused_wires_fact (refused is given why refuses line) asks harness wires rows told is_harness told_wires no_form = absurd ((harness_law harness).apart rows why is_harness (refusal_told refuses harness told))
-  refused_wires_fact (no_wires is asked sim takes refuses line) asks harness wires rows told is_harness told_wires no_form = inl (inl is)
-  refused_wires_fact (unit words sim final out takes read ends) asks harness wires rows told is_harness told_wires no_form = absurd (no_reads sim takes harness wires rows told is_harness told_wires no_form read)
-  refused_wires_fact (learning words sim final out takes unread ends) asks harness wires rows told is_harness told_wires no_form = absurd (not_both run.words _ _ _ _ asks.2 words)
-  refused_wires_fact (memory is decided) asks harness wires rows told is_harness told_wires no_form = inl (inr is)
+  pub points_differ_fact : Way run status rig → status ≡ 13 → AsksContinuity run.words × (rows : List HarnessRow) × ((file : List ℕ) → TellsHarness run file → IsHarness file rows)
+      × (p : Program) × ((file : List ℕ) → TellsWires run file → IsWirelist file p) × (p.nets.points ≢ points_in rows) × Closes run.sunk (points_differ_line (points_in rows) p.nets.points)
+  points_differ_fact (usage is none line) at = absurd (omega arith)
+  points_differ_fact (fault is command rose line) at = absurd (omega arith)
+  points_differ_fact (no_wires_read is asked sim takes rose line) at = absurd (omega arith)
+  points_differ_fact (refused is command refusal refuses line) at = absurd (omega arith)
+  points_differ_fact (no_wires is asked sim takes refusal refuses line) at = absurd (omega arith)
+  points_differ_fact (other_points is asked sim takes p wires other line) at =
+      (asked, takes.rows, harness_told takes, p, program_told wires, λ same. other (same ∙ sym (taken_points takes)), subst (λ (n : ℕ). Closes run.sunk (points_differ_line n p.nets.points)) (taken_points takes) line)
+  points_differ_fact (unit words sim final out takes p wires same ends) at = absurd ((at_work ends).4 at)
+  points_differ_fact (learning words sim final out takes unread ends) at = absurd ((at_work ends).4 at)
+  points_differ_fact (memory is decided) at = absurd (omega arith)
+
+  -- a program that was read has the points of the file that says it
+  same_points : (sim : SimState) (takes : TakesHarness run.harness sim) (harness file : List ℕ) (rows : List HarnessRow) (p q : Program) → TellsHarness run harness → IsHarness harness rows → TellsWires run file → IsWirelist file p
+      → TakesWires run.wires q → q.nets.points ≡ sim.state.points → p.nets.points ≡ points_in rows
+  same_points sim takes harness file rows p q told is told_wires says read same =
+      ap (λ (r : Program). r.nets.points) (one_program file p q says (program_told read file told_wires)) ∙ same ∙ taken_points takes ∙ ap points_in (same_rows takes harness rows told is)
+
+  pub differing_points_fact : Way run status rig → AsksContinuity run.words → (harness file : List ℕ) (rows : List HarnessRow) (p : Program) → TellsHarness run harness → IsHarness harness rows
+      → TellsWires run file → IsWirelist file p → p.nets.points ≢ points_in rows → Is 13 status ⊎ ((status ≡ 6) × (Failed run.harness ⊎ Failed run.wires))
+  differing_points_fact (usage is none line) asks harness file rows p told is_harness told_wires says differ = absurd (none (inl asks))
+  differing_points_fact (fault is given rose line) asks harness file rows p told is_harness told_wires says differ = inr (is, inl rose)
+  differing_points_fact (no_wires_read is asked sim takes rose line) asks harness file rows p told is_harness told_wires says differ = inr (is, inr rose)
+  differing_points_fact (refused is given why refuses line) asks harness file rows p told is_harness told_wires says differ = absurd ((harness_law harness).apart rows why is_harness (refusal_told refuses harness told))
+  differing_points_fact (no_wires is asked sim takes why refuses line) asks harness file rows p told is_harness told_wires says differ = absurd (not_both_ways file why p (refused_told refuses file told_wires) says)
+  differing_points_fact (other_points is asked sim takes q read other line) asks harness file rows p told is_harness told_wires says differ = inl (inl is)
+  differing_points_fact (unit words sim final out takes q read same ends) asks harness file rows p told is_harness told_wires says differ = absurd (differ (same_points sim takes harness file rows p q told is_harness told_wires says read same))
+  differing_points_fact (learning words sim final out takes unread ends) asks harness file rows p told is_harness told_wires says differ = absurd (not_both run.words _ _ _ _ asks.2 words)
+  differing_points_fact (memory is decided) asks harness file rows p told is_harness told_wires says differ = inl (inr is)
 
   pub read_fault_fact : Way run status rig → status ≡ 6 → (Failed run.harness ⊎ (AsksContinuity run.words × Failed run.wires)) × Closes run.sunk read_fault_line
   read_fault_fact (usage is none line) at = absurd (omega arith)
   read_fault_fact (fault is command rose line) at = (inl rose, line)
   read_fault_fact (no_wires_read is asked sim takes rose line) at = (inr (asked, rose), line)
   read_fault_fact (refused is command refusal refuses line) at = absurd (omega arith)
-  read_fault_fact (no_wires is asked sim takes refuses line) at = absurd (omega arith)
-  read_fault_fact (unit words sim final out takes wires ends) at = absurd ((at_work ends).3 at)
+  read_fault_fact (no_wires is asked sim takes refusal refuses line) at = absurd (omega arith)
+  read_fault_fact (other_points is asked sim takes p wires other line) at = absurd (omega arith)
+  read_fault_fact (unit words sim final out takes p wires same ends) at = absurd ((at_work ends).3 at)
   read_fault_fact (learning words sim final out takes unread ends) at = absurd ((at_work ends).3 at)
   read_fault_fact (memory is decided) at = absurd (omega arith)
 
 -- ---- the statuses that come of the work on a unit alone
 
 pub data Works (run : Run) (status : ℕ) (rig : Option SimState) : Type 0 where
-  checks : {attempt : ℕ} {serial : List ℕ} {names : List (List ℕ)} {nets : NetTable} → IsContinuity run.words serial attempt → (sim final : SimState) → rig ≡ Some final → TakesHarness run.harness sim
-      → TakesWires run.wires sim.state.points names nets → UnitWay (ComparesAll (compared_of (zip names nets.named))) sim.state final.state serial attempt run.sunk status → Works run status rig
+  checks : {attempt : ℕ} {serial : List ℕ} → IsContinuity run.words serial attempt → (sim final : SimState) → rig ≡ Some final → TakesHarness run.harness sim
+      → (p : Program) → TakesWires run.wires p → p.nets.points ≡ sim.state.points → UnitWay (ComparesAll (compared_of (zip p.names p.nets.named))) sim.state final.state serial attempt run.sunk status → Works run status rig
   learns : {attempt : ℕ} {serial : List ℕ} → IsLearn run.words serial attempt → (sim final : SimState) → rig ≡ Some final → TakesHarness run.harness sim → IsUnread run.wires
       → UnitWay LearnsAll sim.state final.state serial attempt run.sunk status → Works run status rig
 
 abbrev pub IsWork : ℕ → Type 0
-IsWork status = (status ≢ 2) × (status ≢ 3) × (status ≢ 4) × (status ≢ 6) × (status ≢ 9)
+IsWork status = (status ≢ 2) × (status ≢ 3) × (status ≢ 4) × (status ≢ 6) × (status ≢ 9) × (status ≢ 13)
 
 pub works : {run : Run} {status : ℕ} {rig : Option SimState} → Way run status rig → IsWork status → Works run status rig
 works (usage is none line) other = absurd (other.0 is)
 works (fault is command rose line) other = absurd (other.3 is)
 works (no_wires_read is asked sim takes rose line) other = absurd (other.3 is)
 works (refused is command refusal refuses line) other = absurd (other.1 is)
-works (no_wires is asked sim takes refuses line) other = absurd (other.2 is)
-works (unit words sim final out takes wires ends) other = checks words sim final out takes wires ends
+works (no_wires is asked sim takes refusal refuses line) other = absurd (other.2 is)
+works (other_points is asked sim takes p wires differ line) other = absurd (other.5 is)
+works (unit words sim final out takes p wires same ends) other = checks words sim final out takes p wires same ends
 works (learning words sim final out takes unread ends) other = learns words sim final out takes unread ends
 works (memory is decided) other = absurd (other.4 is)

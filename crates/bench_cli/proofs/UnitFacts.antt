@@ -1,8 +1,8 @@
 -- What a run promises of the unit, by the ways in which the work on it ends.
-use Rattle.std.proofs.Common.{◌≡◌, ◌⊎◌, inl, inr, ◌<◌, ℕ, List, Option, None, Some, sym, subst, arith}
+use Rattle.std.proofs.Common.{◌≡◌, ◌⊎◌, inl, inr, ◌<◌, ℕ, List, Option, None, Some, sym, ◌∙◌, subst, arith}
 use Rattle.std.specs.Prelude.{zip}
 use Rattle.base.specs.Causes.{Rose}
-use Rattle.partition.specs.NetTable.{NetTable}
+use Rattle.wirelist.specs.declared.program.Program.{Program}
 use Rattle.rig.specs.RigState.{RigState}
 use Rattle.rig.specs.Joins.{unit_rows}
 use Rattle.rig_sim.specs.declared.row.HarnessRow.{HarnessRow}
@@ -17,22 +17,23 @@ use Rattle.bench_cli.specs.Run.{Run, IsUnread, TakesHarness, TakesWires}
 use Rattle.bench_cli.specs.Promises.{TellsHarness, IsChecked, HasLearned}
 use Rattle.bench_cli.proofs.SeatedLemmas.{Shows, shows, Teaches, teaches, seat_counts, readings_count, none_there}
 use Rattle.bench_cli.proofs.UnitWays.{UnitWay, at_done, at_cut, at_absent, at_fault}
-use Rattle.bench_cli.proofs.RunLemmas.{Way, harness_told, reads_told, not_both, Works, IsWork, works}
+use Rattle.bench_cli.proofs.RunLemmas.{Way, harness_told, program_told, taken_points, not_both, Works, IsWork, works}
 use Rattle.bench_cli.proofs.RunLemmas.Works.{checks, learns}
 
 -- a whole check, in the words of the files
-is_checked : {run : Run} {serial : List ℕ} {attempt : ℕ} {names : List (List ℕ)} {nets : NetTable} {sim final : SimState} {text : List ℕ} (takes : TakesHarness run.harness sim)
-    → IsContinuity run.words serial attempt → TakesWires run.wires sim.state.points names nets → (shown : Shows takes.rows final.state serial attempt (compared_of (zip names nets.named)) text) → IsChecked run final shown.trials
-is_checked {run} {serial} {attempt} {names} {nets} {sim} {final} {text} takes words wires shown = record {
+is_checked : {run : Run} {serial : List ℕ} {attempt : ℕ} {sim final : SimState} {text : List ℕ} (takes : TakesHarness run.harness sim)
+    → IsContinuity run.words serial attempt → (p : Program) → TakesWires run.wires p → p.nets.points ≡ sim.state.points
+    → (shown : Shows takes.rows final.state serial attempt (compared_of (zip p.names p.nets.named)) text) → IsChecked run final shown.trials
+is_checked {run} {serial} {attempt} {sim} {final} {text} takes words p wires same shown = record {
   rows = takes.rows;
   elements = shown.elements;
   serial = serial;
   attempt = attempt;
-  names = names;
-  nets = nets;
+  p = p;
   words = words;
   harness = harness_told takes;
-  wires = reads_told takes wires;
+  wires = program_told wires;
+  over = same ∙ taken_points takes;
   unit = shown.unit;
   answers = shown.answers;
   trail = shown.trail;
@@ -58,16 +59,16 @@ has_learned {run} {serial} {attempt} {sim} {final} {text} takes words unread tau
 }
 
 none_of_0 : IsWork 0
-none_of_0 = (λ e. omega (arith, e), λ e. omega (arith, e), λ e. omega (arith, e), λ e. omega (arith, e), λ e. omega (arith, e))
+none_of_0 = (λ e. omega (arith, e), λ e. omega (arith, e), λ e. omega (arith, e), λ e. omega (arith, e), λ e. omega (arith, e), λ e. omega (arith, e))
 
 none_of_7 : IsWork 7
-none_of_7 = (λ e. omega (arith, e), λ e. omega (arith, e), λ e. omega (arith, e), λ e. omega (arith, e), λ e. omega (arith, e))
+none_of_7 = (λ e. omega (arith, e), λ e. omega (arith, e), λ e. omega (arith, e), λ e. omega (arith, e), λ e. omega (arith, e), λ e. omega (arith, e))
 
 none_of_14 : IsWork 14
-none_of_14 = (λ e. omega (arith, e), λ e. omega (arith, e), λ e. omega (arith, e), λ e. omega (arith, e), λ e. omega (arith, e))
+none_of_14 = (λ e. omega (arith, e), λ e. omega (arith, e), λ e. omega (arith, e), λ e. omega (arith, e), λ e. omega (arith, e), λ e. omega (arith, e))
 
 none_of_15 : IsWork 15
-none_of_15 = (λ e. omega (arith, e), λ e. omega (arith, e), λ e. omega (arith, e), λ e. omega (arith, e), λ e. omega (arith, e))
+none_of_15 = (λ e. omega (arith, e), λ e. omega (arith, e), λ e. omega (arith, e), λ e. omega (arith, e), λ e. omega (arith, e), λ e. omega (arith, e))
 
 module _ (run : Run) (status : ℕ) (rig : Option SimState) where
   -- a check or a learning, and not the other
@@ -76,17 +77,17 @@ module _ (run : Run) (status : ℕ) (rig : Option SimState) where
   CheckedFact = (sim : SimState) × (trials : List Trial) × (rig ≡ Some sim) × IsChecked run sim trials × Wrote run.sunk (checked_text trials)
 
   checked_by : Works run status rig → status ≡ 0 → AsksContinuity run.words → CheckedFact
-  checked_by (checks {attempt} {serial} {names} {nets} words sim final out takes wires ends) at asks =
+  checked_by (checks {attempt} {serial} words sim final out takes p wires same ends) at asks =
       let done = at_done ends at in
-      let shown = shows takes.rows sim takes.is_new done.0 serial attempt done.2 final.state (compared_of (zip names nets.named)) done.1 done.3 in
-      (final, shown.trials, out, is_checked takes words wires shown, subst (Wrote run.sunk) shown.text_is done.4)
+      let shown = shows takes.rows sim takes.is_new done.0 serial attempt done.2 final.state (compared_of (zip p.names p.nets.named)) done.1 done.3 in
+      (final, shown.trials, out, is_checked takes words p wires same shown, subst (Wrote run.sunk) shown.text_is done.4)
   checked_by (learns words sim final out takes unread ends) at asks = absurd (not_both run.words _ _ _ _ asks.2 words)
 
   abbrev LearnedFact : Type 0
   LearnedFact = (sim : SimState) × (classes : List ℕ) × (rig ≡ Some sim) × HasLearned run sim classes × Wrote run.sunk (learned_text classes)
 
   learned_by : Works run status rig → status ≡ 0 → AsksLearn run.words → LearnedFact
-  learned_by (checks words sim final out takes wires ends) at asks = absurd (not_both run.words _ _ _ _ words asks.2)
+  learned_by (checks words sim final out takes p wires same ends) at asks = absurd (not_both run.words _ _ _ _ words asks.2)
   learned_by (learns {attempt} {serial} words sim final out takes unread ends) at asks =
       let done = at_done ends at in
       let taught = teaches takes.rows sim takes.is_new done.0 serial attempt done.2 final.state done.1 done.3 in
@@ -96,24 +97,24 @@ module _ (run : Run) (status : ℕ) (rig : Option SimState) where
   CutFact = (sim : SimState) × (trials : List Trial) × (rig ≡ Some sim) × IsChecked run sim trials × Rose run.sunk.faults run.sunk.faults_after × WroteSome run.sunk (checked_text trials)
 
   cut_by : Works run status rig → status ≡ 7 → AsksContinuity run.words → CutFact
-  cut_by (checks {attempt} {serial} {names} {nets} words sim final out takes wires ends) at asks =
+  cut_by (checks {attempt} {serial} words sim final out takes p wires same ends) at asks =
       let cut = at_cut ends at in
-      let shown = shows takes.rows sim takes.is_new cut.0 serial attempt cut.2 final.state (compared_of (zip names nets.named)) cut.1 cut.3 in
-      (final, shown.trials, out, is_checked takes words wires shown, cut.4, subst (WroteSome run.sunk) shown.text_is cut.5)
+      let shown = shows takes.rows sim takes.is_new cut.0 serial attempt cut.2 final.state (compared_of (zip p.names p.nets.named)) cut.1 cut.3 in
+      (final, shown.trials, out, is_checked takes words p wires same shown, cut.4, subst (WroteSome run.sunk) shown.text_is cut.5)
   cut_by (learns words sim final out takes unread ends) at asks = absurd (not_both run.words _ _ _ _ asks.2 words)
 
   abbrev LearnCutFact : Type 0
   LearnCutFact = (sim : SimState) × (classes : List ℕ) × (rig ≡ Some sim) × HasLearned run sim classes × Rose run.sunk.faults run.sunk.faults_after × WroteSome run.sunk (learned_text classes)
 
   learn_cut_by : Works run status rig → status ≡ 7 → AsksLearn run.words → LearnCutFact
-  learn_cut_by (checks words sim final out takes wires ends) at asks = absurd (not_both run.words _ _ _ _ words asks.2)
+  learn_cut_by (checks words sim final out takes p wires same ends) at asks = absurd (not_both run.words _ _ _ _ words asks.2)
   learn_cut_by (learns {attempt} {serial} words sim final out takes unread ends) at asks =
       let cut = at_cut ends at in
       let taught = teaches takes.rows sim takes.is_new cut.0 serial attempt cut.2 final.state cut.1 cut.3 in
       (final, taught.classes, out, has_learned takes words unread taught, cut.4, subst (WroteSome run.sunk) taught.text_is cut.5)
 
   commanded_by : Works run status rig → IsCommand run.words
-  commanded_by (checks {attempt} {serial} words sim final out takes wires ends) = inl (serial, attempt, words)
+  commanded_by (checks {attempt} {serial} words sim final out takes p wires same ends) = inl (serial, attempt, words)
   commanded_by (learns {attempt} {serial} words sim final out takes unread ends) = inr (serial, attempt, words)
 
   -- either of them
@@ -124,7 +125,7 @@ module _ (run : Run) (status : ℕ) (rig : Option SimState) where
       × (unit_rows (units_of rows) serial attempt ≡ None) × Closes run.sunk fixture_empty_line
 
   empty_by : Works run status rig → status ≡ 14 → EmptyFact
-  empty_by (checks {attempt} {serial} words sim final out takes wires ends) at =
+  empty_by (checks {attempt} {serial} words sim final out takes p wires same ends) at =
       let absent = at_absent ends at in
       (takes.rows, serial, attempt, inl words, harness_told takes, none_there takes.rows sim takes.is_new final.state serial attempt absent.0, absent.1)
   empty_by (learns {attempt} {serial} words sim final out takes unread ends) at =
@@ -148,7 +149,7 @@ module _ (run : Run) (status : ℕ) (rig : Option SimState) where
       )
 
   fault_by : Works run status rig → status ≡ 15 → FaultFact
-  fault_by (checks words sim final out takes wires ends) at = fault_in sim final out takes ends at
+  fault_by (checks words sim final out takes p wires same ends) at = fault_in sim final out takes ends at
   fault_by (learns words sim final out takes unread ends) at = fault_in sim final out takes ends at
 
   -- by all ways of a run

@@ -1,8 +1,7 @@
 -- What a run of the program promises, of its words, the bytes that its sources had left, what its sink got, its status and the rig that it hands out.
-use Rattle.std.specs.Prelude.{◌≡◌, ◌⊎◌, ◌<◌, ◌≤◌, ◌+◌, ℕ, List, [], Option, None, Some, take, length, map, zip, Contains}
+use Rattle.std.specs.Prelude.{◌≡◌, ◌≢◌, ◌⊎◌, ◌<◌, ◌≤◌, ◌+◌, ℕ, List, [], Option, None, Some, take, length, map, zip, Contains}
 use Rattle.base.specs.Causes.{Rose}
 use Rattle.partition.specs.Heads.{heads}
-use Rattle.partition.specs.NetTable.{NetTable}
 use Rattle.rig.specs.declared.unit.Row.{Row}
 use Rattle.rig.specs.Joins.{joined_classes, unit_rows}
 use Rattle.rig.specs.Calls.{IsBelowLast}
@@ -14,13 +13,15 @@ use Rattle.rig_sim.specs.Places.{points_in}
 use Rattle.rig_sim.specs.Units.{units_of}
 use Rattle.rig_sim.specs.Harness.{IsHarness, IsRefused}
 use Rattle.rig_sim.specs.SimRig.{SimState}
-use Rattle.first_form.specs.FirstForm.{Wires, IsFirstForm, Reads}
+use Rattle.wirelist.specs.declared.program.Program.{Program}
+use Rattle.wirelist.specs.declared.refusal.WireRefusal.{WireRefusal}
 use Rattle.continuity_check.specs.Compared.{Trial, judged, reading_of, checked_text, compared_of}
 use Rattle.learn.specs.Learned.{most_readings}
 use Rattle.learned_program.specs.LearnedProgram.{learned_text}
 use Rattle.bench_cli.specs.Words.{IsContinuity, IsLearn, AsksContinuity, AsksLearn, IsCommand}
 use Rattle.bench_cli.specs.Closing.{Wrote, WroteSome, Closes, usage_line, read_fault_line, rig_fault_line, fixture_empty_line}
-use Rattle.bench_cli.specs.Run.{Read, Run, IsUnread, Ends, most_of_harness, most_of_wires, refusal_line, first_form_line}
+use Rattle.bench_cli.specs.Run.{Read, Run, IsUnread, Ends, most_of_harness, most_of_wires, refusal_line}
+use Rattle.bench_cli.specs.Wires.{IsWirelist, first_refusal, wires_refusal_line, points_differ_line}
 
 -- where the source tells, the file that is read of it, which is all of it unless it is longer than a file may be
 abbrev pub Tells : Read → ℕ → List ℕ → Type 0
@@ -43,13 +44,13 @@ pub record IsChecked (run : Run) (sim : SimState) (trials : List Trial) : Type 0
   pub elements : List Row
   pub serial : List ℕ
   pub attempt : ℕ
-  pub names : List (List ℕ)
-  pub nets : NetTable
+  pub p : Program
   pub words : IsContinuity run.words serial attempt
   pub harness : (file : List ℕ) → TellsHarness run file → IsHarness file rows
-  pub wires : (file : List ℕ) → TellsWires run file → Reads file (points_in rows) names nets
+  pub wires : (file : List ℕ) → TellsWires run file → IsWirelist file p
+  pub over : p.nets.points ≡ points_in rows
   pub unit : unit_rows (units_of rows) serial attempt ≡ Some elements
-  pub answers : trials ≡ map (judged (joined_classes elements (points_in rows))) (compared_of (zip names nets.named))
+  pub answers : trials ≡ map (judged (joined_classes elements (points_in rows))) (compared_of (zip p.names p.nets.named))
   pub trail : sim.state.trail ≡ Some (map reading_of trials)
 
 -- The unit of the words was learned by readings alone, within the bounds on their number, and the wirelist was left alone.
@@ -79,13 +80,14 @@ pub record FindsUnit (IsWords : List (List ℕ) → List ℕ → ℕ → Type 0)
   pub harness : IsHarness harness_file rows
   pub unit_is : unit_rows (units_of rows) serial attempt ≡ unit
 
--- the wirelist is in form too
+-- the wirelist is in form too, and has as many points
 pub record AreInForm (run : Run) (rows : List HarnessRow) (unit : Option (List Row)) : Type 0 where
   pub finds : FindsUnit IsContinuity run rows unit
   pub wires_file : List ℕ
   pub told_wires : TellsWires run wires_file
-  pub wires : Wires
-  pub first_form : IsFirstForm wires_file (points_in rows) wires
+  pub p : Program
+  pub wirelist : IsWirelist wires_file p
+  pub over : p.nets.points ≡ points_in rows
 
 -- The status is 9 in place of its own where memory ran out; this is the one answer without a cause.
 abbrev pub Is : ℕ → ℕ → Type 0
@@ -107,11 +109,16 @@ pub record IsRun (run : Run) (status : ℕ) (rig : Option SimState) : Type 0 whe
   -- 3 exactly where the harness file is refused; the line says why
   pub harness_refused : status ≡ 3 → IsCommand run.words × (refusal : HarnessRefusal) × ((file : List ℕ) → TellsHarness run file → IsRefused file refusal) × Closes run.sunk (refusal_line refusal)
   pub refused_harness : IsCommand run.words → (file : List ℕ) (refusal : HarnessRefusal) → TellsHarness run file → IsRefused file refusal → Is 3 status ⊎ ((status ≡ 6) × Failed run.harness)
-  -- 4 exactly where the wirelist is asked for and is not in form for this harness
+  -- 4 exactly where the wirelist is asked for and is refused; the line says why
   pub wires_refused : status ≡ 4 → AsksContinuity run.words × (rows : List HarnessRow) × ((file : List ℕ) → TellsHarness run file → IsHarness file rows)
-      × ((file : List ℕ) (w : Wires) → TellsWires run file → IsFirstForm file (points_in rows) w → ⊥) × Closes run.sunk first_form_line
-  pub refused_wires : AsksContinuity run.words → (harness wires : List ℕ) (rows : List HarnessRow) → TellsHarness run harness → IsHarness harness rows
-      → TellsWires run wires → ((w : Wires) → IsFirstForm wires (points_in rows) w → ⊥) → Is 4 status ⊎ ((status ≡ 6) × (Failed run.harness ⊎ Failed run.wires))
+      × (refusal : WireRefusal) × ((file : List ℕ) → TellsWires run file → first_refusal file ≡ Some refusal) × Closes run.sunk (wires_refusal_line refusal)
+  pub refused_wires : AsksContinuity run.words → (harness wires : List ℕ) (rows : List HarnessRow) (refusal : WireRefusal) → TellsHarness run harness → IsHarness harness rows
+      → TellsWires run wires → first_refusal wires ≡ Some refusal → Is 4 status ⊎ ((status ≡ 6) × (Failed run.harness ⊎ Failed run.wires))
+  -- 13 exactly where both are in form and have other numbers of points
+  pub points_differ : status ≡ 13 → AsksContinuity run.words × (rows : List HarnessRow) × ((file : List ℕ) → TellsHarness run file → IsHarness file rows)
+      × (p : Program) × ((file : List ℕ) → TellsWires run file → IsWirelist file p) × (p.nets.points ≢ points_in rows) × Closes run.sunk (points_differ_line (points_in rows) p.nets.points)
+  pub differing_points : AsksContinuity run.words → (harness wires : List ℕ) (rows : List HarnessRow) (p : Program) → TellsHarness run harness → IsHarness harness rows
+      → TellsWires run wires → IsWirelist wires p → p.nets.points ≢ points_in rows → Is 13 status ⊎ ((status ≡ 6) × (Failed run.harness ⊎ Failed run.wires))
   -- 6 only where a read of one of the files failed; the wirelist is read for the check of continuity alone
   pub read_fault : status ≡ 6 → (Failed run.harness ⊎ (AsksContinuity run.words × Failed run.wires)) × Closes run.sunk read_fault_line
   -- 14 exactly where there is no such unit

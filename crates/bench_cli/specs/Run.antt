@@ -1,20 +1,21 @@
 -- A run of the program: what it is given, how it ends and what it leaves.
 --     Run                 what a run is given, and what its sources and its sink are after it
 --     Ends run status rig the ways in which a run ends, each with its cause, its status and its closing line
-use Rattle.std.specs.Prelude.{◌≡◌, ◌++◌, [], ℕ, List, Option, None, Some, codes, decimal, zip, unwrap_or}
+use Rattle.std.specs.Prelude.{◌≡◌, ◌≢◌, ◌++◌, [], ℕ, List, Option, None, Some, codes, decimal, zip, unwrap_or}
 use Rattle.base.specs.Causes.{Rose}
 use Rattle.bench_edge.specs.Whole.{TookFirst}
-use Rattle.partition.specs.NetTable.{NetTable}
 use Rattle.rig_sim.specs.declared.row.HarnessRow.{HarnessRow}
 use Rattle.rig_sim.specs.declared.refusal.HarnessRefusal.{HarnessRefusal}
 use Rattle.rig_sim.specs.Refusals.{number_of, line_of}
 use Rattle.rig_sim.specs.Harness.{IsHarness, IsRefused}
 use Rattle.rig_sim.specs.SimRig.{SimState, IsNew}
-use Rattle.first_form.specs.FirstForm.{Wires, IsFirstForm, Reads}
+use Rattle.wirelist.specs.declared.program.Program.{Program}
+use Rattle.wirelist.specs.declared.refusal.WireRefusal.{WireRefusal}
 use Rattle.continuity_check.specs.Compared.{compared_of}
 use Rattle.bench_cli.specs.Words.{IsContinuity, IsLearn, AsksContinuity, IsCommand}
 use Rattle.bench_cli.specs.Closing.{Sunk, Wrote, ClosesWith, usage_line, read_fault_line}
 use Rattle.bench_cli.specs.UnitEnds.{UnitEnds}
+use Rattle.bench_cli.specs.Wires.{IsWirelist, first_refusal, wires_refusal_line, points_differ_line}
 use Rattle.bench_cli.specs.Findings.{ComparesAll, LearnsAll}
 
 -- the bytes that a source has left and its count of failed reads, before and after
@@ -45,9 +46,6 @@ line_words (Some line) = codes " line " ++ decimal line
 abbrev pub refusal_line : HarnessRefusal → List ℕ
 refusal_line refusal = codes "harness refused " ++ (decimal (unwrap_or (number_of refusal) 0) ++ (line_words (line_of refusal) ++ codes "\n"))
 
-abbrev pub first_form_line : List ℕ
-first_form_line = codes "wirelist not in the first form\n"
-
 -- the harness was read, and this is its simulator
 pub record TakesHarness (harness : Read) (sim : SimState) : Type 0 where
   pub file : List ℕ
@@ -62,17 +60,17 @@ pub record RefusesHarness (harness : Read) (refusal : HarnessRefusal) : Type 0 w
   pub taken : TookFirst harness.left harness.left_after most_of_harness file
   pub is_refused : IsRefused file refusal
 
--- the wirelist was read, and says these names and nets
-pub record TakesWires (wires : Read) (points : ℕ) (names : List (List ℕ)) (nets : NetTable) : Type 0 where
+-- the wirelist was read, and says this program
+pub record TakesWires (wires : Read) (p : Program) : Type 0 where
   pub file : List ℕ
   pub taken : TookFirst wires.left wires.left_after most_of_wires file
-  pub reads : Reads file points names nets
+  pub is_wirelist : IsWirelist file p
 
--- it was read, and is not in form
-pub record RefusesWires (wires : Read) (points : ℕ) : Type 0 where
+-- it was read, and this is its first fault
+pub record RefusesWires (wires : Read) (refusal : WireRefusal) : Type 0 where
   pub file : List ℕ
   pub taken : TookFirst wires.left wires.left_after most_of_wires file
-  pub none : (w : Wires) → IsFirstForm file points w → ⊥
+  pub first : first_refusal file ≡ Some refusal
 
 -- the source was not asked for its bytes
 pub record IsUnread (read : Read) : Type 0 where
@@ -87,11 +85,14 @@ pub data Ends (run : Run) : ℕ → Option SimState → Type 0 where
   harness_memory : IsCommand run.words → Wrote run.sunk [] → Ends run 9 None
   -- the check of continuity reads the wirelist
   wires_fault : {status : ℕ} → AsksContinuity run.words → (sim : SimState) → TakesHarness run.harness sim → Rose run.wires.faults run.wires.faults_after → ClosesWith run.sunk read_fault_line 6 status → Ends run status (Some sim)
-  wires_refused : {status : ℕ} → AsksContinuity run.words → (sim : SimState) → TakesHarness run.harness sim → RefusesWires run.wires sim.state.points → ClosesWith run.sunk first_form_line 4 status → Ends run status (Some sim)
+  wires_refused : {status : ℕ} → AsksContinuity run.words → (sim : SimState) → TakesHarness run.harness sim → (refusal : WireRefusal) → RefusesWires run.wires refusal → ClosesWith run.sunk (wires_refusal_line refusal) 4 status → Ends run status (Some sim)
   wires_memory : AsksContinuity run.words → (sim : SimState) → TakesHarness run.harness sim → Wrote run.sunk [] → Ends run 9 (Some sim)
+  -- both files were read, and are of other numbers of points
+  points_differ : {status : ℕ} → AsksContinuity run.words → (sim : SimState) → TakesHarness run.harness sim → (p : Program) → TakesWires run.wires p
+      → p.nets.points ≢ sim.state.points → ClosesWith run.sunk (points_differ_line sim.state.points p.nets.points) 13 status → Ends run status (Some sim)
   -- both files were read, and the unit was looked for
-  checked : {status attempt : ℕ} {serial : List ℕ} {names : List (List ℕ)} {nets : NetTable} → IsContinuity run.words serial attempt → (sim final : SimState) → TakesHarness run.harness sim
-      → TakesWires run.wires sim.state.points names nets → UnitEnds (ComparesAll (compared_of (zip names nets.named))) sim.state final.state serial attempt run.sunk status → Ends run status (Some final)
+  checked : {status attempt : ℕ} {serial : List ℕ} → IsContinuity run.words serial attempt → (sim final : SimState) → TakesHarness run.harness sim → (p : Program) → TakesWires run.wires p
+      → p.nets.points ≡ sim.state.points → UnitEnds (ComparesAll (compared_of (zip p.names p.nets.named))) sim.state final.state serial attempt run.sunk status → Ends run status (Some final)
   -- learning leaves the wirelist alone
   learned : {status attempt : ℕ} {serial : List ℕ} → IsLearn run.words serial attempt → (sim final : SimState) → TakesHarness run.harness sim → IsUnread run.wires
       → UnitEnds LearnsAll sim.state final.state serial attempt run.sunk status → Ends run status (Some final)

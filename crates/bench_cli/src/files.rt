@@ -1,23 +1,19 @@
-//! The two files, read.
+//! The harness file, read.
 
 ghost use Rattle.std.specs.Prelude.{◌≡◌, string_bytes, IfOk};
 ghost use Rattle.bench_edge.specs.Streams.{SameOtherHalf};
 ghost use Rattle.bench_cli.specs.Run.{refusal_line};
-ghost use Rattle.bench_cli.specs.Files.{HarnessIs, HarnessCloses, WiresAre, WiresClose, stop_of};
+ghost use Rattle.bench_cli.specs.Files.{HarnessIs, HarnessCloses, stop_of};
 
 use crate::closing::status;
 use crate::unit::closed;
 use base::Memory;
 use bench_edge::{EdgeStop, Sink, Source, read_upto};
-use first_form::{FirstStop, FirstWires, read_first};
 use rig_sim::{HarnessRefusal, SimRig};
 use std::alloc::Global;
 
 /// How many bytes of the harness file are read at most: one more than it may have.
 const MOST_OF_HARNESS: usize = 8_388_609;
-
-/// How many bytes of the wirelist are read at most: one more than it may have.
-const MOST_OF_WIRES: usize = 1_048_577;
 
 /// Why there is no simulator.
 #[derive(Clone, Copy, Debug)]
@@ -26,17 +22,6 @@ pub enum HarnessStop {
     Fault,
     /// The file is refused.
     Refused(HarnessRefusal),
-    /// Memory ran out.
-    Memory,
-}
-
-/// Why there are no nets.
-#[derive(Clone, Copy, Debug)]
-pub enum WiresStop {
-    /// A read failed, which the source's count tells.
-    Fault,
-    /// The file is not in form.
-    Refused,
     /// Memory ran out.
     Memory,
 }
@@ -51,20 +36,6 @@ impl From<EdgeStop> for HarnessStop {
         match stop {
             EdgeStop::Failed => HarnessStop::Fault,
             EdgeStop::Memory => HarnessStop::Memory,
-        }
-    }
-}
-
-impl From<EdgeStop> for WiresStop {
-    ghost use Rattle.std.specs.Prelude.{◌≡◌};
-    ghost use Rattle.bench_cli.specs.Files.{wires_stop_of};
-
-    ghost from_gives = { λ stop given. given ≡ wires_stop_of stop };
-
-    fn from(stop: EdgeStop) -> Self {
-        match stop {
-            EdgeStop::Failed => WiresStop::Fault,
-            EdgeStop::Memory => WiresStop::Memory,
         }
     }
 }
@@ -112,36 +83,5 @@ fn refusal_text(alloc: Global, refusal: HarnessRefusal) -> Result<String, Memory
     match refusal.line() {
         Some(line) => Ok(format!(in alloc; "harness refused {number} line {line}\n")?),
         None => Ok(format!(in alloc; "harness refused {number}\n")?),
-    }
-}
-
-/// The nets of the wirelist, over this number of points.
-pub fn read_wires<W: Source>(
-    alloc: Global,
-    wires: &mut W,
-    points: u16,
-) -> Result<FirstWires, WiresStop>
-    ensures wires { WiresAre (record { left = W.left wires.old; left_after = W.left wires.new; faults = W.read_faults wires.old; faults_after = W.read_faults wires.new }) points result }
-{
-    let bytes = read_upto(alloc, wires, MOST_OF_WIRES)?;
-    match read_first(alloc, bytes.as_slice(), points) {
-        Ok(wires) => Ok(wires),
-        Err(FirstStop::NotFirstForm) => Err(WiresStop::Refused),
-        Err(FirstStop::Memory) => Err(WiresStop::Memory),
-    }
-}
-
-/// Writes why there are no nets, and gives the status.
-pub fn close_wires<O: Sink>(stop: WiresStop, out: &mut O) -> u8
-    ensures { WiresClose (record { got = O.got out.old; got_after = O.got out.new; faults = O.write_faults out.old; faults_after = O.write_faults out.new }) stop result }
-{
-    match stop {
-        WiresStop::Fault => closed(out, b"read fault\n", status::READ_FAULT),
-        WiresStop::Refused => closed(
-            out,
-            b"wirelist not in the first form\n",
-            status::WIRELIST_REFUSED,
-        ),
-        WiresStop::Memory => status::NO_MEMORY,
     }
 }

@@ -22,6 +22,7 @@ mod files;
 mod learning;
 mod top;
 mod unit;
+mod wires;
 mod words;
 
 pub use check::check_unit;

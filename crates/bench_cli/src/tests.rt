@@ -107,9 +107,36 @@ const CHECKS: [Run; 13] = [
         UNIT,
         HARNESS,
         "part,P1,1\npoints,4\n",
-        4,
-        "wirelist not in the first form\n",
+        13,
+        "points differ harness 5 wirelist 4\n",
     ),
+];
+
+const POINT_TWICE: &str = "part,P1,1\npoints,5\nnet,A,0,1\nnet,C,1,4\n";
+
+const NAME_TWICE: &str = "part,P1,1\npoints,5\nnet,A,0,1\nnet,A,4\n";
+
+const QUOTED: &str = "points,5\r\n\"net\",A,1,0,,\r\npart,P1,1";
+
+const WIRELISTS: [Run; 6] = [
+    (UNIT, HARNESS, "", 4, "wirelist refused 4\n"),
+    (UNIT, HARNESS, POINT_TWICE, 4, "wirelist refused 7 2 1\n"),
+    (UNIT, HARNESS, NAME_TWICE, 4, "wirelist refused 8 4\n"),
+    (
+        UNIT,
+        HARNESS,
+        "attempts,10\n",
+        4,
+        "wirelist refused 3 1 2\n",
+    ),
+    (
+        UNIT,
+        HARNESS,
+        "points,5000\n",
+        4,
+        "wirelist refused 6 5000\n",
+    ),
+    (UNIT, HARNESS, QUOTED, 0, "PASS\n"),
 ];
 
 const LEARN: &str = "learn --serial SN1 --attempt 1";
@@ -166,6 +193,11 @@ fn each_ending_of_a_check_has_its_status_and_its_line(rt: HostRuntime) -> Result
 #[test]
 fn each_ending_of_learning_has_its_status_and_its_line(rt: HostRuntime) -> Result<(), Fail> {
     each_ends(&rt, &LEARNINGS)
+}
+
+#[test]
+fn each_wirelist_has_its_status_and_its_line(rt: HostRuntime) -> Result<(), Fail> {
+    each_ends(&rt, &WIRELISTS)
 }
 
 #[test]

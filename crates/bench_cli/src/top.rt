@@ -1,20 +1,23 @@
 //! The top call.
 
 ghost use Rattle.std.specs.Prelude.{◌≡◌, ℕ, List, map, string_bytes};
+ghost use Rattle.wirelist.specs.Programs.{IsProgram};
 ghost use Rattle.bench_cli.specs.Words.{IsContinuity, Asks};
-ghost use Rattle.bench_cli.specs.Run.{Read, TakesHarness, Ends};
+ghost use Rattle.bench_cli.specs.Run.{Read, TakesHarness, TakesWires, Ends};
 ghost use Rattle.bench_cli.specs.Promises.{IsRun};
 
 use crate::check::check_unit;
 use crate::closing::status;
-use crate::files::{close_harness, close_wires, read_harness, read_wires};
+use crate::files::{close_harness, read_harness};
 use crate::learning::learn_unit;
 use crate::unit::{UnitEnded, closed};
+use crate::wires::{close_difference, close_wires, read_wires};
 use crate::words::{Command, UnitName, read_words};
 use bench_edge::{Sink, Source};
 use rig::Rig;
 use rig_sim::SimRig;
 use std::alloc::Global;
+use wirelist::Program;
 
 const USAGE: &str =
     "usage: bench continuity|learn|run|serve|report|unit|import|export|soak [options]\n";
@@ -118,24 +121,36 @@ fn check<W: Source, O: Sink>(
       sunk = record { got = O.got out.old; got_after = O.got out.new; faults = O.write_faults out.old; faults_after = O.write_faults out.new };
     }) result.status result.rig }
 {
-    match read_wires(alloc, wires, sim.points()) {
-        Ok(read) => {
-            let UnitEnded { status, rig } = check_unit(
-                alloc,
-                sim,
-                unit,
-                read.names.as_slice(),
-                &read.nets,
-                out,
-            );
-            Ended {
-                status,
-                rig: Some(rig),
-            }
-        }
+    match read_wires(alloc, wires) {
+        Ok(p) => compare(alloc, unit, sim, &p, out),
         Err(stop) => Ended {
-            status: close_wires(stop, out),
+            status: close_wires(alloc, stop, out),
             rig: Some(sim),
         },
+    }
+}
+
+/// Checks the unit against a program, where it has as many points as the rig.
+fn compare<O: Sink>(alloc: Global, unit: &UnitName, sim: SimRig, p: &Program, out: &mut O) -> Ended
+    requires unpowered { sim.state.volts ≡ 0 }
+    requires valid { IsProgram p.now }
+    ensures { (words : List (List ℕ)) (harness wires : Read) → IsContinuity words unit.now.serial unit.now.attempt → TakesHarness harness sim → TakesWires wires p.now → Ends (record {
+      words = words;
+      harness = harness;
+      wires = wires;
+      sunk = record { got = O.got out.old; got_after = O.got out.new; faults = O.write_faults out.old; faults_after = O.write_faults out.new };
+    }) result.status result.rig }
+{
+    let (points, wanted) = (sim.points(), p.nets.points());
+    if wanted != points {
+        return Ended {
+            status: close_difference(alloc, points, wanted, out),
+            rig: Some(sim),
+        };
+    }
+    let UnitEnded { status, rig } = check_unit(alloc, sim, unit, p.names.as_slice(), &p.nets, out);
+    Ended {
+        status,
+        rig: Some(rig),
     }
 }
