@@ -1,4 +1,3 @@
-use Rattle.std.proofs.Common.{sym}
 use Rattle.bench_cli.proofs.TopLemmas.{refuses_wires, takes_wires}
 use Rattle.bench_cli.proofs.wires.read_wires.Goals as goal
 
