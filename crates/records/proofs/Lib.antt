@@ -1,0 +1,9 @@
+pub mod Items
+pub mod Orders
+pub mod Readers
+pub mod Outcomes
+pub mod Decoding
+pub mod Bodies
+pub mod Lengths
+pub mod Texts
+pub mod OneRecord

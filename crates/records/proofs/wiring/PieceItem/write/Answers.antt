@@ -1,0 +1,6 @@
+use Rattle.std.proofs.Common.{arith}
+use Rattle.records.proofs.Orders.{piece_few}
+use Rattle.records.proofs.wiring.PieceItem.write.Goals as goal
+
+pub write_counted-requires-clause-few : goal.write_counted-requires-clause-few
+write_counted-requires-clause-few c = rw c.as_slice.ensures (let few = piece_few c.args.self.now c.requires in omega arith)

@@ -1,0 +1,5 @@
+pub mod RecordBytes
+pub mod RecordRanges
+pub mod Reading
+pub mod Orders
+pub mod Laws
