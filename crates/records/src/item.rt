@@ -1,7 +1,6 @@
 //! Lists of what an outcome names: two bytes of count, and the items.
 
 ghost use Rattle.std.specs.Prelude.{◌≡◌, ◌++◌, ◌^◌, ◌<◌, ◌↔◌, ℕ, List, Option, All, AllPairs, length, IsTrue, OnOk};
-ghost use Rattle.std.specs.List.{flat_map};
 ghost use Rattle.records.specs.Reading.{Gives, items_at, counted_at};
 ghost use Rattle.records.specs.RecordBytes.{counted};
 

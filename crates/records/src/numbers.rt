@@ -1,6 +1,5 @@
 //! Numbers and names at the front of bytes.
 
-ghost use Rattle.std.specs.Prelude.{◌≡◌};
 ghost use Rattle.std.specs.Int.{w16, w32, w64};
 ghost use Rattle.records.specs.Reading.{Gives, byte_at, number_at, name_at};
 

@@ -4,7 +4,7 @@ ghost use Rattle.std.specs.Prelude.{◌≡◌, ◌≤◌, length, IfOk};
 ghost use Rattle.records.specs.declared.record.StationRecord.{StationRecord};
 ghost use Rattle.records.specs.Reading.{Gives, header_at};
 ghost use Rattle.records.specs.RecordBytes.{record_bytes};
-ghost use Rattle.records.specs.RecordRanges.{IsRecord, Spells, Only, Decodes, most_bytes};
+ghost use Rattle.records.specs.RecordRanges.{IsRecord, Spells, Only, most_bytes};
 
 use crate::body::{body_of, kind_byte, write_body, write_name};
 use crate::numbers::{name_at, u8_at, u64_at};

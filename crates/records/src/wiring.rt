@@ -4,7 +4,7 @@ ghost use Rattle.std.specs.Prelude.{◌≡◌, ◌++◌, ◌↔◌, ◌≤◌, I
 ghost use Rattle.records.specs.Orders.{pieces_before, shorts_before};
 ghost use Rattle.records.specs.Reading.{Gives, piece_at, short_at, difference_at};
 ghost use Rattle.records.specs.RecordBytes.{piece_bytes, short_bytes, difference_bytes};
-ghost use Rattle.wirelist.specs.Ranges.{PieceInRange, ShortInRange, PieceBefore, ShortBefore, PiecesInRange, ShortsInRange, DifferenceInRange, most_points, piece_points, short_nets};
+ghost use Rattle.wirelist.specs.Ranges.{PieceInRange, ShortInRange, PieceBefore, ShortBefore, PiecesInRange, ShortsInRange, DifferenceInRange, piece_points, short_nets};
 
 use crate::DecodeStop;
 use crate::item::{Item, are_ordered, counted_of, write_counted};
