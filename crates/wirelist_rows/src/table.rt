@@ -5,7 +5,7 @@ ghost use Rattle.csv.specs.Records.{fields_of};
 ghost use Rattle.wirelist_rows.specs.Filled.{filled};
 
 use csv::{ByteRecord, Error};
-use std::alloc::AllocFailed;
+use std::alloc::{AllocError, AllocFailed};
 use std::marker::Model;
 
 /// Why reading stopped.
@@ -39,6 +39,17 @@ impl<T: Drop> From<AllocFailed<T>> for Unread {
     }
 }
 
+impl From<AllocError> for Unread {
+    ghost use Rattle.std.specs.Prelude.{◌≡◌};
+    ghost use Rattle.wirelist_rows.specs.declared.table.Unread.TheVariants.{Memory};
+
+    ghost from_gives = { λ _ unread. unread ≡ Memory };
+
+    fn from(_: AllocError) -> Self {
+        Unread::Memory
+    }
+}
+
 /// A row: the list of its fields, of which the last is not empty.
 #[derive(Drop)]
 pub struct Row {
@@ -55,16 +66,17 @@ impl Model for Row {
 }
 
 impl Row {
-    ghost use Rattle.std.specs.Prelude.{◌↔◌, IsTrue, length, option_map, slice_get};
+    ghost use Rattle.std.specs.Prelude.{◌↔◌, IsTrue, IfOk, length, option_map, slice_get};
 
-    /// The record without the empty fields at its end.
-    pub(crate) fn filled(read: ByteRecord) -> Self
-        ensures { result ≡ filled (fields_of read) }
+    /// The record without the empty fields at its end, in no more memory than that takes.
+    pub(crate) fn filled(read: ByteRecord) -> Result<Self, AllocError>
+        ensures { IfOk result (λ row. row ≡ filled (fields_of read)) }
     {
         let count = filled_count(&read);
         let mut kept = read;
         kept.truncate(count);
-        Row { record: kept }
+        let record = kept.clone()?;
+        Ok(Row { record })
     }
 
     /// How many fields it has.

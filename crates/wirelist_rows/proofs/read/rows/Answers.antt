@@ -1,18 +1,13 @@
-use Rattle.std.proofs.Common.{◌≤◌, ◌+◌, ℕ, List, length, map, ◌∙◌, ap, sym, subst, All}
+use Rattle.std.proofs.Common.{◌≤◌, ◌+◌, ℕ, List, length, sym, subst, All}
 use Rattle.csv.specs.Reading.{default_config}
-use Rattle.wirelist_rows.specs.Filled.{filled}
 use Rattle.wirelist_rows.proofs.AllRecords.{rows_few}
 use Rattle.wirelist_rows.proofs.ShortRows.{rows_short}
 use Rattle.wirelist_rows.proofs.read.rows.Goals as goal
 
 pub returns-in-Ok-clause-few : goal.returns-in-Ok-clause-few
 returns-in-Ok-clause-few c =
-    subst (λ (l : List (List (List ℕ))). length l ≤ length c.args.bytes.now + 1)
-    (sym (c.in_ok-all_filled-in-Ok.ensures ∙ ap (map filled) c.in-Ok.ensures.read))
-    (rows_few default_config c.args.bytes.now)
+    subst (λ (l : List (List (List ℕ))). length l ≤ length c.args.bytes.now + 1) (sym c.in-Ok.ensures.read) (rows_few default_config c.args.bytes.now)
 
 pub returns-in-Ok-clause-short : goal.returns-in-Ok-clause-short
 returns-in-Ok-clause-short c =
-    subst (λ (l : List (List (List ℕ))). All (λ row. length row ≤ length c.args.bytes.now + 1) l)
-    (sym (c.in_ok-all_filled-in-Ok.ensures ∙ ap (map filled) c.in-Ok.ensures.read))
-    (rows_short default_config c.args.bytes.now)
+    subst (λ (l : List (List (List ℕ))). All (λ row. length row ≤ length c.args.bytes.now + 1) l) (sym c.in-Ok.ensures.read) (rows_short default_config c.args.bytes.now)
