@@ -1,6 +1,6 @@
 -- How a run of disk calls goes on.
-use Rattle.std.proofs.Common.{◌≡◌, ◌⊎◌, inl, inr, ⊎_elim, ℕ, suc, ◌+◌, ◌-◌, ◌≤◌, IsTrue, is_some, List, ◌∷◌, length, take, sym, ◌∙◌, ap, subst, arith}
-use Rattle.disk_edge.specs.Disk.{Content, IsImage, DiskState, may_leave, now, IsImageOfSome, might_have_left_since, LeavesOnly, IsAsBefore}
+use Rattle.std.proofs.Common.{◌≡◌, ◌⊎◌, inl, inr, ⊎_elim, ℕ, suc, ◌+◌, ◌-◌, ◌≤◌, IsTrue, Option, Some, None, is_some, List, ◌∷◌, length, take, refl, sym, ◌∙◌, ap, subst, arith}
+use Rattle.disk_edge.specs.Disk.{Content, IsImage, DiskState, may_leave, now, IsImageOfSome, might_have_left_since, LeavesOnly, IsAsBefore, EachImage}
 
 -- one moment more: what the new content allows comes to what there was
 one_more : (content : Content) (contents : List Content) (moment : ℕ) (image : List ℕ) → moment + 1 ≤ length contents → IsImageOfSome (take (length contents + 1 - moment) (content ∷ contents)) image → IsImageOfSome (take (length contents - moment) contents) image ⊎ IsImage content image
@@ -93,3 +93,28 @@ both old new P Q first second = record {
       (λ has_p. ⊎_elim (λ before. inl before) (λ has_q. inr (has_p, has_q)) (second.each honest tells moment image le left))
       (first.each honest tells moment image le left);
 }
+
+-- two calls that leave all as it was
+pub before_and : (a b c : DiskState) → IsAsBefore a b → IsAsBefore b c → IsAsBefore a c
+before_and a b c first second = record {
+  reads_as = second.reads_as ∙ first.reads_as;
+  present = second.present ∙ first.present;
+  past = second.past ∙ first.past;
+  honest = second.honest ∙ first.honest;
+}
+
+-- a disk that was not called
+pub none_images : (disk : DiskState) (P : List ℕ → Type 0) → LeavesOnly disk disk P
+none_images disk P = stays disk disk P (record { reads_as = refl; present = refl; past = refl; honest = refl })
+
+some_of : {A : Type 0} (o : Option A) → IsTrue (is_some o) → (x : A) × (o ≡ Some x)
+some_of None is = cc
+some_of (Some x) is = (x, refl)
+
+-- what a crash may leave after calls: what it might leave before them, or what they add
+pub each_after : (old new : DiskState) (P Q : List ℕ → Type 0) → LeavesOnly old new P → EachImage old Q → EachImage new (λ image. Q image ⊎ P image)
+each_after old new P Q leaves was honest file told image left =
+    let was_honest : IsTrue old.honest = sym leaves.honest ∙ honest in
+    let was_told : IsTrue (is_some old.reads_as) = sym leaves.tells ∙ ap is_some told in
+    let first = some_of old.reads_as was_told in
+    each_now old new P Q leaves was_honest was_told (was was_honest first.0 first.1) image left

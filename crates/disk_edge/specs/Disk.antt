@@ -23,7 +23,8 @@ pub record Content : Type 0 where
 pub record IsImage (content : Content) (image : List ℕ) : Type 0 where
   pub no_shorter : length content.synced ≤ length image
   pub no_longer : length image ≤ content.longest
-  pub elsewhere : (place : ℕ) → place < length content.synced → AllByRecursion (IsOutside place) content.written → slice_index image place ≡ slice_index content.synced place
+  pub elsewhere : (place : ℕ) → place < length content.synced → AllByRecursion (IsOutside place) content.written
+      → slice_index image place ≡ slice_index content.synced place
 
 -- after a sync
 abbrev pub settled : List ℕ → Content
@@ -68,11 +69,13 @@ pub record LeavesOnly (old new : DiskState) (P : List ℕ → Type 0) : Type 0 w
   pub honest : new.honest ≡ old.honest
   pub tells : is_some new.reads_as ≡ is_some old.reads_as
   pub later : now old ≤ now new
-  pub each : IsTrue old.honest → IsTrue (is_some old.reads_as) → (moment : ℕ) (image : List ℕ) → moment ≤ now old → might_have_left_since new moment image → might_have_left_since old moment image ⊎ P image
+  pub each : IsTrue old.honest → IsTrue (is_some old.reads_as) → (moment : ℕ) (image : List ℕ) → moment ≤ now old
+      → might_have_left_since new moment image → might_have_left_since old moment image ⊎ P image
 
 -- After a call a crash may leave what this content allows. One that was refused may have left the content as it was.
 abbrev pub Becomes : {T : Type 0} → DiskState → Result T DiskStop → Content → DiskState → Type 0
-Becomes old result content new = IsTrue old.honest → MatchResult result (λ _. new.present ≡ content) (λ _. (new.present ≡ content) ⊎ (new.present ≡ old.present))
+Becomes old result content new =
+    IsTrue old.honest → MatchResult result (λ _. new.present ≡ content) (λ _. (new.present ≡ content) ⊎ (new.present ≡ old.present))
 
 -- what it reads as was made sure of, so a crash leaves nothing else
 abbrev pub IsDurable : DiskState → Type 0
@@ -95,3 +98,7 @@ pub record IsTorn (at n : ℕ) (old new : List ℕ) : Type 0 where
   pub after : drop (at + n) new ≡ drop (at + n) old
   pub no_shorter : length old ≤ length new
   pub no_longer : length new ≤ max (length old) (at + n)
+
+-- where it is honest and tells, each image that a crash now may leave has P
+abbrev pub EachImage : DiskState → (List ℕ → Type 0) → Type 0
+EachImage disk P = IsTrue disk.honest → ForSome disk.reads_as (λ _. (image : List ℕ) → may_leave disk image → P image)

@@ -14,7 +14,8 @@ pub record IsMarked (mark : ℕ) (ranges : List Range) (bytes image : List ℕ) 
   pub outside : (place : ℕ) → IsOutsideAll ranges place → slice_index image place ≡ slice_index bytes place
   pub inside : (place : ℕ) → place < length bytes → (IsOutsideAll ranges place → ⊥) → slice_index image place ≡ mark
 
--- Pick 0 is the bytes as last synced, 2 and 3 the bytes as they read with a mark where a write since reached or tried to reach, and each other pick the bytes as they read.
+-- Pick 0 is the bytes as last synced, 2 and 3 the bytes as they read with a mark where a write since reached or tried to reach,
+-- and each other pick the bytes as they read.
 pub record IsPicked (disk : DiskState) (pick : ℕ) (image : List ℕ) : Type 0 where
   pub synced : pick ≡ 0 → image ≡ disk.present.synced
   pub ones : pick ≡ 2 → ForSome disk.reads_as (λ all. IsMarked 1 disk.present.written all image)

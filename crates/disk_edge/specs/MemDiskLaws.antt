@@ -8,14 +8,16 @@ use Rattle.disk_edge.specs.MemDisk.{Standing, after_call, after_calls, fresh}
 use Rattle.disk_edge.specs.declared.mem_disk.Call.{Call}
 use Rattle.disk_edge.specs.declared.mem_disk.Call.TheVariants.{Length, Read, Write, Sync}
 
-pub length-overwritten : (old : List ℕ) (at : ℕ) (bytes : List ℕ) → (length old ≤ length (overwritten old at bytes)) × (length (overwritten old at bytes) ≤ max (length old) (at + length bytes))
+pub length-overwritten : (old : List ℕ) (at : ℕ) (bytes : List ℕ)
+    → (length old ≤ length (overwritten old at bytes)) × (length (overwritten old at bytes) ≤ max (length old) (at + length bytes))
 length-overwritten old at bytes = (
   omega (arith, length-append (take at old ++ bytes) (drop (at + length bytes) old), length-append (take at old) bytes, length-take at old, length-drop (at + length bytes) old),
   omega (arith, length-append (take at old ++ bytes) (drop (at + length bytes) old), length-append (take at old) bytes, length-take at old, length-drop (at + length bytes) old),
 )
 
 -- the bytes outside the range stay
-pub overwritten_elsewhere : (old : List ℕ) (at : ℕ) (bytes : List ℕ) (place : ℕ) → place < length old → IsOutside place (record { from = at; to = at + length bytes }) → slice_index (overwritten old at bytes) place ≡ slice_index old place
+pub overwritten_elsewhere : (old : List ℕ) (at : ℕ) (bytes : List ℕ) (place : ℕ) → place < length old → IsOutside place (record { from = at; to = at + length bytes })
+    → slice_index (overwritten old at bytes) place ≡ slice_index old place
 overwritten_elsewhere old at bytes place lt (inl before) = search (rules, places)
 overwritten_elsewhere old at bytes place lt (inr behind) = search (rules, places)
 
@@ -26,7 +28,8 @@ unwritten content bytes at n image = record {
   elsewhere = λ place lt outside. image.elsewhere place lt outside.1;
 }
 
-written : (content : Content) (old : List ℕ) (at : ℕ) (bytes : List ℕ) → IsImage content old → IsImage (touched content at (length bytes)) (overwritten old at bytes)
+written : (content : Content) (old : List ℕ) (at : ℕ) (bytes : List ℕ) → IsImage content old
+    → IsImage (touched content at (length bytes)) (overwritten old at bytes)
 written content old at bytes image = record {
   no_shorter = omega (arith, image.no_shorter, (length-overwritten old at bytes).0);
   no_longer = omega (arith, image.no_longer, (length-overwritten old at bytes).1);
@@ -51,7 +54,8 @@ after_images s (call ∷ calls) image = after_images (after_call s call) calls (
 pub reads_image : (first : List ℕ) (calls : List Call) → IsImage (after_calls first calls).present (after_calls first calls).bytes
 reads_image first calls = after_images (fresh first) calls (settled_image first)
 
-pub image_law : (first : List ℕ) (calls : List Call) (all : List ℕ) → Some (after_calls first calls).bytes ≡ Some all → IsImage (after_calls first calls).present all
+pub image_law : (first : List ℕ) (calls : List Call) (all : List ℕ) → Some (after_calls first calls).bytes ≡ Some all
+    → IsImage (after_calls first calls).present all
 image_law first calls all told =
     let same : (after_calls first calls).bytes ≡ all = cc in
     subst (IsImage (after_calls first calls).present) same (reads_image first calls)

@@ -11,7 +11,7 @@ use std::alloc::{AllocError, AllocFailed};
 use thiserror::Error;
 
 /// Why a call of a disk was refused.
-#[derive(Debug, Drop, Error)]
+#[derive(Clone, Copy, Debug, PartialEq, Eq, Error)]
 pub enum DiskStop {
     /// The disk failed. Its count of faults rose.
     #[error("the disk failed")]

@@ -9,14 +9,19 @@ use base::Text;
 use std::fs::{File, OpenOptions};
 use std::io;
 use std::os::unix::fs::FileExt;
+use std::path::Path;
 use std::rt::Files;
 
-/// A file at a path. Its first call opens the file, and makes it where it is missing.
+/// A file at a path. Its first call opens the file, makes it where it is missing, and syncs the folder that it stands in.
+///
+/// After a sync that failed each further sync fails: the system may have dropped the bytes that it could not write, and would
+/// answer that all is well.
 #[derive(Drop)]
 pub struct FileDisk<R: Files<File = File> + Drop> {
     rt: R,
     path: Text,
     file: Option<File>,
+    sync_failed: bool,
     faults: u64,
 }
 
@@ -35,6 +40,7 @@ impl<R: Files<File = File> + Drop> FileDisk<R> {
             rt,
             path,
             file: None,
+            sync_failed: false,
             faults: 0,
         }
     }
@@ -57,10 +63,21 @@ impl<R: Files<File = File> + Drop> FileDisk<R> {
     }
 }
 
+// A file that is made stands in its folder for good only once the folder is synced.
 fn open<R: Files<File = File>>(rt: &R, path: &Text) -> io::Result<File> {
     let mut how = OpenOptions::new();
     how.read(true).write(true).create(true);
-    how.open(rt, path.as_str())
+    let file = how.open(rt, path.as_str())?;
+    File::open(rt, folder(path.as_str()))?.sync_all()?;
+    Ok(file)
+}
+
+// The folder that a file at this path stands in.
+fn folder(path: &str) -> &str {
+    let folder = Path::new(path)
+        .parent()
+        .map_or("", |folder| folder.as_str());
+    if folder.is_empty() { "." } else { folder }
 }
 
 // An answer of the system as one of the disk. Each failure is counted.
@@ -94,6 +111,12 @@ impl<R: Files<File = File> + Drop> Disk for FileDisk<R> {
     }
 
     fn sync(&mut self) -> Result<(), DiskStop> {
-        self.with_file(|file| file.sync_all())
+        if self.sync_failed {
+            self.faults = self.faults.saturating_add(1);
+            return Err(DiskStop::Failed);
+        }
+        let answer = self.with_file(|file| file.sync_all());
+        self.sync_failed = answer.is_err();
+        answer
     }
 }

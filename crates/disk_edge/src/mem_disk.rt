@@ -19,7 +19,7 @@ pub enum Call {
     Sync { done: bool },
 }
 
-/// A disk in memory. It is honest and tells its bytes.
+/// A disk in memory. It is honest and tells its bytes, and its calls fail exactly at the numbers that it was given.
 #[derive(Drop)]
 pub struct MemDisk {
     alloc: Global,
@@ -32,11 +32,11 @@ pub struct MemDisk {
 }
 
 impl MemDisk {
-    ghost use Rattle.std.specs.Prelude.{◌≡◌, [], Some, IfOk};
+    ghost use Rattle.std.specs.Prelude.{◌≡◌, ◌↔◌, [], Some, IfOk, IsTrue, Contains};
     ghost use Rattle.disk_edge.specs.Disk.{may_leave};
     ghost use Rattle.disk_edge.specs.Image.{IsPicked};
     ghost use Rattle.disk_edge.specs.MemDisk.{fresh, state_of, longest_read_of};
-    ghost use Rattle.disk_edge.specs.MemDiskState.{mem_state, calls_of, failing_of};
+    ghost use Rattle.disk_edge.specs.MemDiskState.{mem_state, calls_of, failing_of, next_number};
 
     /// A disk of these bytes, which count as synced. The calls with these numbers, counted from 1, fail.
     pub fn new(alloc: Global, bytes: Bytes, failing: Counts) -> Result<Self, Memory>
@@ -91,7 +91,9 @@ impl MemDisk {
     }
 
     // Whether the next call is one that fails.
-    fn is_failing(&self) -> bool {
+    fn is_failing(&self) -> bool
+        ensures { IsTrue result ↔ Contains (failing_of self.now) (next_number self.now) }
+    {
         let number = self.calls.len() as u64 + 1;
         self.failing.contains(number)
     }
@@ -198,11 +200,24 @@ fn overwrite(all: &mut Vec<u8>, at: usize, bytes: &[u8]) -> Result<(), AllocErro
 }
 
 impl Disk for MemDisk {
+    ghost use Rattle.std.specs.Prelude.{◌≡◌, ◌+◌, ◌≤◌, Some, length, slice_range, IfOk, IfSome, OnOk, OnErr};
+    ghost use Rattle.std.specs.Option.{ForSome};
+    ghost use Rattle.std.specs.Result.{result_err};
+    ghost use Rattle.base.specs.Causes.{HasCause};
+    ghost use Rattle.disk_edge.specs.Disk.{IsImage, IsAsBefore, Becomes, LeavesOnly, IsTorn, may_leave, overwritten, settled, touched};
+    ghost use Rattle.disk_edge.specs.MemDiskState.{mem_state, MakesCall};
+    ghost use Rattle.disk_edge.specs.declared.mem_disk.Call.TheVariants as call;
+
     ghost state = { λ disk. state_of (after_calls disk.first disk.calls.items) disk.faults };
 
     ghost reads_an_image = { λ disk all honest told. image_law disk.first disk.calls.items all told };
 
-    fn len(&mut self) -> Result<u64, DiskStop> {
+    fn len(&mut self) -> Result<u64, DiskStop>
+        ensures length { IfOk result (λ n. ForSome (mem_state self.old).reads_as (λ all. n ≡ length all)) }
+        ensures same { IsAsBefore (mem_state self.old) (mem_state self.new) }
+        ensures cause { HasCause (mem_state self.old).faults (mem_state self.new).faults (result_err result) DiskStop.Failed }
+        ensures call { MakesCall (λ _. call.Length) self.old self.new result }
+    {
         let fails = self.is_failing();
         self.calls.push(Call::Length)?;
         if fails {
@@ -212,7 +227,13 @@ impl Disk for MemDisk {
         Ok(self.bytes.len() as u64)
     }
 
-    fn read_at(&mut self, at: u64, buf: &mut [u8]) -> Result<(), DiskStop> {
+    fn read_at(&mut self, at: u64, buf: &mut [u8]) -> Result<(), DiskStop>
+        requires { ForSome (mem_state self.old).reads_as (λ all. at + length buf.old ≤ length all) }
+        ensures filled { OnOk result (ForSome (mem_state self.old).reads_as (λ all. buf.new ≡ slice_range all at (at + length buf.old))) }
+        ensures same { IsAsBefore (mem_state self.old) (mem_state self.new) }
+        ensures cause { HasCause (mem_state self.old).faults (mem_state self.new).faults (result_err result) DiskStop.Failed }
+        ensures call { MakesCall (λ _. call.Read at (length buf.old)) self.old self.new result }
+    {
         let fails = self.is_failing();
         self.calls.push(Call::Read {
             at,
@@ -227,7 +248,15 @@ impl Disk for MemDisk {
         Ok(())
     }
 
-    fn write_at(&mut self, at: u64, bytes: &[u8]) -> Result<(), DiskStop> {
+    fn write_at(&mut self, at: u64, bytes: &[u8]) -> Result<(), DiskStop>
+        requires { ForSome (mem_state self.old).reads_as (λ all. at ≤ length all) }
+        ensures written { OnOk result (ForSome (mem_state self.old).reads_as (λ all. (mem_state self.new).reads_as ≡ Some (overwritten all at bytes.now))) }
+        ensures torn { OnErr result (ForSome (mem_state self.old).reads_as (λ all. IfSome (mem_state self.new).reads_as (IsTorn at (length bytes.now) all))) }
+        ensures content { Becomes (mem_state self.old) result (touched (mem_state self.old).present at (length bytes.now)) (mem_state self.new) }
+        ensures crash { LeavesOnly (mem_state self.old) (mem_state self.new) (IsImage (touched (mem_state self.old).present at (length bytes.now))) }
+        ensures cause { HasCause (mem_state self.old).faults (mem_state self.new).faults (result_err result) DiskStop.Failed }
+        ensures call { MakesCall (call.Write at bytes.now) self.old self.new result }
+    {
         let done = !self.is_failing();
         let copy = Bytes::from_slice(self.alloc, bytes)?;
         self.calls.reserve(1)?;
@@ -248,7 +277,13 @@ impl Disk for MemDisk {
         Err(DiskStop::Failed)
     }
 
-    fn sync(&mut self) -> Result<(), DiskStop> {
+    fn sync(&mut self) -> Result<(), DiskStop>
+        ensures same { OnOk result ((mem_state self.new).reads_as ≡ (mem_state self.old).reads_as) }
+        ensures content { ForSome (mem_state self.old).reads_as (λ all. Becomes (mem_state self.old) result (settled all) (mem_state self.new)) }
+        ensures crash { LeavesOnly (mem_state self.old) (mem_state self.new) (may_leave (mem_state self.old)) }
+        ensures cause { HasCause (mem_state self.old).faults (mem_state self.new).faults (result_err result) DiskStop.Failed }
+        ensures call { MakesCall call.Sync self.old self.new result }
+    {
         let done = !self.is_failing();
         self.calls.push(Call::Sync { done })?;
         if done {

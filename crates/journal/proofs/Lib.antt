@@ -3,6 +3,7 @@ pub mod Bytes
 pub mod Closing
 pub mod Entries
 pub mod Keeping
+pub mod LawLemmas
 pub mod Opened
 pub mod Opens
 pub mod Places

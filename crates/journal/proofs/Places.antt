@@ -6,12 +6,12 @@ use Rattle.std.specs.Int.{w32, to_be_bytes}
 use Rattle.std.proofs.lemmas.Bool.{cases_eq}
 use Rattle.std.proofs.lemmas.Option.{same_Some}
 use Rattle.std.proofs.lemmas.List.{take_at, drop_at, get_or_append_left, get_or_push}
-use Rattle.disk_edge.specs.Disk.{Content, DiskState, IsDurable, IsImage}
+use Rattle.disk_edge.specs.Disk.{Content, DiskState, IsDurable, IsImage, EachImage}
 use Rattle.disk_edge.proofs.Images.{only_settled_bytes}
 use Rattle.journal.specs.declared.TheConstants.{LONGEST_BODY, LONGEST_FILE}
 use Rattle.journal.specs.Format.{sized, entry, Fits, AllFit, written, end_after, AtRest, magic}
 use Rattle.journal.specs.Gates.{places, bodies_behind, bodies_between, last_gate, AreInOrder, IsAt, IsKept}
-use Rattle.journal.specs.Journal.{HasEntries, TellsEntries, IsNext, EachImage}
+use Rattle.journal.specs.Journal.{HasEntries, TellsEntries, IsNext}
 use Rattle.journal.proofs.Bytes.{length-sized, written_unique, length-written}
 use Rattle.journal.proofs.Stages.{behind_gate}
 use Rattle.journal.proofs.Entries.{told_by}

@@ -25,7 +25,8 @@ last_gate gates = slice_index gates (length gates - 1)
 -- whatever the disk is, the gates stand in order within the limits
 pub record AreInOrder (gates : List ℕ) : Type 0 where
   pub some : 1 ≤ length gates
-  pub steps : (k : ℕ) → k + 1 < length gates → (slice_index gates k + 5 ≤ slice_index gates (k + 1)) × (slice_index gates (k + 1) ≤ slice_index gates k + 5 + LONGEST_BODY)
+  pub steps : (k : ℕ) → k + 1 < length gates
+      → (slice_index gates k + 5 ≤ slice_index gates (k + 1)) × (slice_index gates (k + 1) ≤ slice_index gates k + 5 + LONGEST_BODY)
   pub few : 5 * length gates ≤ last_gate gates + 5
   pub within : last_gate gates ≤ LONGEST_FILE
 

@@ -1,7 +1,7 @@
 -- What a journal's disk holds, and what its calls hand back.
-use Rattle.std.specs.Prelude.{◌≡◌, ℕ, ◌≤◌, max, IsTrue, IsSomeAnd, List, [], ◌∷◌, ◌++◌, length}
+use Rattle.std.specs.Prelude.{◌≡◌, ℕ, ◌≤◌, max, IsSomeAnd, List, [], ◌∷◌, ◌++◌, length}
 use Rattle.std.specs.Option.{ForSome}
-use Rattle.disk_edge.specs.Disk.{DiskState, IsDurable, IsTorn, may_leave}
+use Rattle.disk_edge.specs.Disk.{DiskState, IsDurable, IsTorn, EachImage}
 use Rattle.journal.specs.Format.{written, entry, Fits, AtRest}
 use Rattle.journal.specs.declared.TheConstants.{LONGEST_FILE}
 
@@ -16,10 +16,6 @@ HasEntries disk bodies = ForSome disk.reads_as (λ file. AtRest file bodies)
 -- it tells, and reads as these entries at rest
 abbrev pub TellsEntries : DiskState → List (List ℕ) → Type 0
 TellsEntries disk bodies = IsSomeAnd disk.reads_as (λ file. AtRest file bodies)
-
--- where it is honest and tells, each image that a crash now may leave has P
-abbrev pub EachImage : DiskState → (List ℕ → Type 0) → Type 0
-EachImage disk P = IsTrue disk.honest → ForSome disk.reads_as (λ _. (image : List ℕ) → may_leave disk image → P image)
 
 -- no image that a crash now may leave is longer than a journal may be
 abbrev pub IsWithinLimit : DiskState → Type 0

@@ -40,9 +40,9 @@ impl<D: Disk> Journal<D> {
     ghost use Rattle.std.specs.Option.{ForSome};
     ghost use Rattle.std.specs.Result.{result_err};
     ghost use Rattle.base.specs.Causes.{HasCause};
-    ghost use Rattle.disk_edge.specs.Disk.{LeavesOnly, IsAsBefore};
+    ghost use Rattle.disk_edge.specs.Disk.{LeavesOnly, IsAsBefore, EachImage};
     ghost use Rattle.journal.specs.Format.{Holds, IsBeforeOrAfter, AtRest, IsSound, IsFull, end_after};
-    ghost use Rattle.journal.specs.Journal.{HasEntries, TellsEntries, EachImage, KeepsLimit};
+    ghost use Rattle.journal.specs.Journal.{HasEntries, TellsEntries, KeepsLimit};
     ghost use Rattle.journal.specs.Opening.{IsJournal, MayOpen};
     ghost use Rattle.journal.specs.Refusal.{IsRefused, IsWrong, IsOfTheFile, IsUntouched};
     ghost use Rattle.journal.specs.Mount.{disk_of_stop, why_of, state_after_mount};

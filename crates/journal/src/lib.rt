@@ -10,11 +10,13 @@
 //! - [`Journal::append`] adds an entry. A crash at any moment of it leaves the old entries, or these and the new one, and after it
 //!   answers Ok a crash leaves these and the new one.
 //! - [`Journal::entry`] reads an entry, [`Journal::count`] counts them, and [`Journal::full`] says whether a longest one has no room.
+//! - `laws` says that a file has one reading: one list of entries, and at most one entry whose gate stands half open.
 //! - No call makes a file longer than [`LONGEST_FILE`], where a sound one is mounted.
 #![tactic(auto)]
 
 mod entry;
 mod journal;
+pub mod laws;
 mod opening;
 mod put;
 mod refusal;

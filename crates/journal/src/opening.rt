@@ -234,7 +234,8 @@ pub fn open<D: Disk>(alloc: Global, disk: &mut D) -> Result<Vec<u64>, Refusal>
     ensures in_order { IfOk result (λ gates. AreInOrder gates.items) }
     ensures kept { IfOk result (λ gates. IsKept (D.state disk.new) gates.items) }
     ensures found { OnOk result (ForSome (D.state disk.old).reads_as IsJournal) }
-    ensures entries { OnOk result (ForSome (D.state disk.old).reads_as (λ file. (bodies : List (List ℕ)) → Holds file bodies → HasEntries (D.state disk.new) bodies)) }
+    ensures entries { OnOk result (ForSome (D.state disk.old).reads_as (λ file. (bodies : List (List ℕ)) → Holds file bodies
+        → HasEntries (D.state disk.new) bodies)) }
     ensures refused { IfErr result (IsRefused (D.state disk.old) (D.state disk.new)) }
     ensures untouched { IfErr result (λ refusal. IsOfTheFile refusal → IsUntouched (D.state disk.old) (D.state disk.new)) }
     ensures any_moment { LeavesOnly (D.state disk.old) (D.state disk.new) (MayOpen (D.state disk.old)) }

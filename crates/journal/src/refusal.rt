@@ -62,7 +62,7 @@ impl<D> OpenStop<D> {
     ghost use Rattle.std.specs.Prelude.{◌≡◌};
     ghost use Rattle.journal.specs.Mount.{disk_of_stop, why_of};
 
-    pub fn new(refusal: Refusal, disk: D) -> Self
+    pub(crate) fn new(refusal: Refusal, disk: D) -> Self
         ensures disk { disk_of_stop result ≡ disk }
         ensures why { why_of result ≡ refusal }
     {

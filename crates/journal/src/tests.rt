@@ -123,10 +123,10 @@ fn a_stop_at_any_call_leaves_no_entry_or_the_whole_one(rt: HostRuntime) -> Resul
 }
 
 #[test]
-fn many_entries_are_mounted_by_short_reads(rt: HostRuntime) -> Result<(), Fail> {
+fn many_entries_are_mounted_and_no_body_is_read(rt: HostRuntime) -> Result<(), Fail> {
     let mut file = Bytes::from_slice(rt.alloc(), b"WHTSJRN1")?;
     for _ in 0..20_000 {
-        file.append(b"\x01\0\0\0\x03abc")?;
+        file.append(b"\x01\0\0\0\x09a-record.")?;
     }
     let (given, disk) = mounted(rt.alloc(), disk_of(rt.alloc(), file.as_slice())?);
     assert_eq!(rt; given, Answer::Holds(20_000));

@@ -71,8 +71,8 @@ fn first_lf(bytes: &[u8]) -> Option<usize>
     bytes.iter().position(|byte| *byte == b'\n')
 }
 
-/// The line without a CR at its end.
-fn drop_cr(line: &[u8]) -> &[u8]
+/// The line without a CR at its end, where one stands there.
+pub fn drop_cr(line: &[u8]) -> &[u8]
     ensures { result.now ≡ without_cr line.now }
 {
     match line.split_last() {
