@@ -4,9 +4,9 @@ pub mod ClassLaws
 pub mod WalkLaws
 pub mod JoinedPartition
 pub mod Labels
-pub mod RebuildLaw
 pub mod NetLaws
-pub mod EmptyLaw
+pub mod Ascending
+pub mod Programmed
 pub mod DigitLaws
 pub mod FieldLaw
 pub mod DigitsLemmas
@@ -16,7 +16,10 @@ pub mod SamePartition
 pub mod MergeLemmas
 pub mod NameLemmas
 pub mod ClaimLemmas
+pub mod IgnoredLemmas
 pub mod AloneLemmas
 pub mod KeptLemmas
 pub mod NetClasses
 pub mod LabelClasses
+pub mod JudgedPartition
+pub mod InTurn

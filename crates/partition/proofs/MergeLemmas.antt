@@ -1,16 +1,33 @@
 -- A merge leaves a partition.
-use Rattle.std.proofs.Common.{◌≡◌, ℕ, ◌<◌, List, length, map, cond, eqb, min, max, sym, ◌∙◌, ap, arith, take, drop, ◌++◌}
+use Rattle.std.proofs.Common.{◌≡◌, inl, inr, ℕ, List, length, map, cond, eqb, min, max, sym, ◌∙◌, ap, arith, take, drop, ◌++◌}
 use Rattle.std.proofs.Math.Seq.{take-append_seam}
-use Rattle.partition.specs.Classes.{class_at, merged}
-use Rattle.partition.specs.Partitions.{IsPartitionValue}
-use Rattle.partition.proofs.WalkLaws.{length-merged}
-use Rattle.partition.proofs.JoinedPartition.{merged-own}
+use Rattle.partition.specs.Classes.{class_at, merged, Same}
+use Rattle.partition.specs.Partitions.{HasClass, IsPartitionValue, JoinsBesides}
+use Rattle.partition.proofs.WalkLaws.{length-merged, merged_cases, merged_joins, merged_keeps}
+use Rattle.partition.proofs.JudgedPartition.{class-inside, merged-classing}
 
-pub merged-valid : (m : List ℕ) (a b : ℕ) → a < length m → b < length m → IsPartitionValue m → IsPartitionValue (merged m a b)
+pub merged-valid : (m : List ℕ) (a b : ℕ) → HasClass m a → HasClass m b → IsPartitionValue m → IsPartitionValue (merged m a b)
 merged-valid m a b in_a in_b valid = record {
-  partition = merged-own m a b in_a in_b valid.partition;
+  partition = merged-classing m a b in_a in_b valid.partition;
   few = omega (arith, length-merged m a b, valid.few);
 }
+
+-- what a merge joins
+pub merged-joins : (m : List ℕ) (a b : ℕ) → HasClass m a → HasClass m b → JoinsBesides m (merged m a b) a b
+merged-joins m a b in_a in_b p q in_p in_q = (
+  merged_cases m a b p q (class-inside m p in_p) (class-inside m q in_q),
+  λ joined. elim joined as (λ _. Same (merged m a b) p q) [
+    | inl same ↦ keeps p q in_p in_q same
+    | inr (inl sides) ↦ keeps p a in_p in_a sides.0 ∙ both ∙ sym (keeps q b in_q in_b sides.1)
+    | inr (inr sides) ↦ keeps p b in_p in_b sides.0 ∙ sym both ∙ sym (keeps q a in_q in_a sides.1)
+  ],
+)
+  where
+    keeps : (x y : ℕ) → HasClass m x → HasClass m y → Same m x y → Same (merged m a b) x y
+    keeps x y in_x in_y same = merged_keeps m a b x y (class-inside m x in_x) (class-inside m y in_y) same
+
+    both : Same (merged m a b) a b
+    both = merged_joins m a b (class-inside m a in_a) (class-inside m b in_b)
 
 -- what a merge makes, from the two class numbers
 pub merged-is : (m new : List ℕ) (a b x y low high : ℕ) → x ≡ class_at m a → y ≡ class_at m b → low ≡ min x y → high ≡ max x y

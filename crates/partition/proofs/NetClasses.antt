@@ -1,19 +1,21 @@
 -- The least point of a net, and the partition by nets.
-use Rattle.std.proofs.Common.{◌≡◌, inl, inr, ℕ, zero, suc, ◌+◌, ◌-◌, ◌<◌, ◌≤◌, ◌^◌, List, [], ◌∷◌, ◌++◌, length, get_or, map, refl, sym, ◌∙◌, ap, subst, arith, true, length-append}
+use Rattle.std.proofs.Common.{◌≡◌, inl, inr, ℕ, ◌+◌, ◌-◌, ◌<◌, ◌≤◌, ◌^◌, Bool, false, cond, List, [], ◌∷◌, ◌++◌, length, get_or, map, refl, sym, ◌∙◌, ap, subst, arith, true, length-append}
 use Rattle.std.specs.List.Sorted.{IsStrictlyIncreasing}
-use Rattle.std.proofs.lemmas.List.{get_or_append_left, get_or-append_right, get_or-map, length-map, same_lists, get_or_read}
-use Rattle.std.proofs.lemmas.List.FromFn.{length-map-range_with_len, get_or-map-range_with_len, map-range_with_len_more}
+use Rattle.std.proofs.lemmas.List.{get_or_append_left, get_or-append_right, get_or-map, length-map, get_or_read}
+use Rattle.std.proofs.lemmas.List.FromFn.{map-range_with_len_more}
 use Rattle.std.proofs.lemmas.Bool.{cases_lt, cases_eq}
 use Rattle.partition.specs.Classes.{points_below, has, first_with, no_class}
 use Rattle.partition.specs.Partitions.{IsPartitionValue}
 use Rattle.partition.specs.NetTable.{NetTable, IsNetTable, all_nets, net_at, net_count, judged_points, programmed_of, head_of}
-use Rattle.partition.specs.Difference.{numbered_nets}
-use Rattle.partition.specs.Claims.{lone_points}
-use Rattle.partition.proofs.ClassLaws.{has-points_below, points_below-AllBelow, range-ascends, first_with-found, first_with-least, class_at-classes_by, length-classes_by, partition-own, partition-least, has-head}
+use Rattle.partition.specs.NetTable.{numbered_nets}
+use Rattle.partition.specs.Claims.{lone_points, head_class}
+use Rattle.partition.proofs.ClassLaws.{first_with-found, first_with-least, length-classes_by, map-same, has-head}
+use Rattle.partition.proofs.FirstPoint.{head_of-first}
+use Rattle.partition.proofs.JudgedPartition.{partition-classing}
 use Rattle.partition.proofs.Members.{In, has-In, enumerate-In}
-use Rattle.partition.proofs.NetLaws.{In-index, net_facts}
+use Rattle.partition.proofs.NetLaws.{In-index, net_facts, judged-below, judged-ascends}
 use Rattle.partition.proofs.PickedLemmas.{increasing_below}
-use Rattle.partition.proofs.EmptyLaw.{programmed-IsPartition}
+use Rattle.partition.proofs.Programmed.{programmed-IsPartition}
 use Rattle.partition.proofs.KeptLemmas.{net_at-is, net_at-below}
 
 abbrev single : ℕ → List ℕ
@@ -36,7 +38,7 @@ module _ (t : NetTable) (ok : IsNetTable t) where
   abbrev net : ℕ → List ℕ
   net i = get_or (all_nets t) i []
 
-  number_at : (i : ℕ) → i < net_count t → In (i, net i) (numbered_nets t)
+  pub number_at : (i : ℕ) → i < net_count t → In (i, net i) (numbered_nets t)
   number_at i l = let number : 0 + i ≡ i = omega arith in subst (λ (k : ℕ). In (k, net i) (numbered_nets t)) number (enumerate-In 0 i [] (all_nets t) l)
 
   pub net_some : (i : ℕ) → i < net_count t → 0 < length (net i)
@@ -57,62 +59,62 @@ module _ (t : NetTable) (ok : IsNetTable t) where
         subst IsStrictlyIncreasing (sym at) (λ k less. absurd (omega arith))
   ]
 
-  pub first_class : (p : ℕ) → p < t.points → get_or (net (net_at t p)) 0 0 ≡ first_with (net_at t) (judged_points t) (net_at t p)
-  first_class p l =
+  pub first_class : (p : ℕ) → has (judged_points t) p ≡ true → get_or (net (net_at t p)) 0 0 ≡ first_with (net_at t) (judged_points t) (net_at t p)
+  first_class p counts =
       let facts = net_facts t ok in
       let js = judged_points t in
-      let counts = has-points_below t.points p l in
       let i = net_at t p in
-      let inside = net_at-below t ok p l in
+      let inside = net_at-below t ok p counts in
       let here = first_has (net i) (net_some i inside) in
       let h = get_or (net i) 0 0 in
       let judged = facts.judged_in (i, net i) h (number_at i inside) here in
-      let below = points_below-AllBelow t.points h judged in
-      let own = net_at-is t ok h i below inside here in
+      let own = net_at-is t ok h i judged inside here in
       let found = first_with-found (net_at t) js i p counts refl in
-      let least = first_with-least (net_at t) 0 js i h (range-ascends 0 t.points) judged own in
+      let least = first_with-least (net_at t) 0 js i h (judged-ascends t) judged own in
       let c = first_with (net_at t) js i in
       let in_net : has (net i) c ≡ true = subst (λ (k : ℕ). has (net k) c ≡ true) found.0 (facts.has_at c found.1) in
       omega (arith, first_least (net i) c (net_increasing i inside) in_net, least)
 
-  pub programmed_is : (classes : List ℕ) (n : ℕ) → n ≡ t.points → classes ≡ map (λ p. get_or (net (net_at t p)) 0 0) (points_below n) → classes ≡ programmed_of t
+  -- the head of a judged point's net is its class
+  class_is : (p : ℕ) (b : Bool) → has (judged_points t) p ≡ b → head_class t p ≡ cond (has (judged_points t) p) (first_with (net_at t) (judged_points t) (net_at t p)) no_class
+  class_is p true e = rw e (first_class p e)
+  class_is p false e = rw e refl
+
+  pub programmed_is : (classes : List ℕ) (n : ℕ) → n ≡ t.points → classes ≡ map (head_class t) (points_below n) → classes ≡ programmed_of t
   programmed_is classes n all is =
       is
-      ∙ ap (λ (m : ℕ). map (λ p. get_or (net (net_at t p)) 0 0) (points_below m)) all
-      ∙ same_lists (map (λ p. get_or (net (net_at t p)) 0 0) (points_below t.points)) (programmed_of t)
-      (length-map-range_with_len (λ p. get_or (net (net_at t p)) 0 0) 0 t.points ∙ sym (length-classes_by (judged_points t) t.points (net_at t)))
-      (λ k d l.
-      let inside : k < t.points = omega (arith, length-map-range_with_len (λ p. get_or (net (net_at t p)) 0 0) 0 t.points) in
-      get_or-map-range_with_len (λ p. get_or (net (net_at t p)) 0 0) 0 t.points k k d inside (omega arith)
-      ∙ first_class k inside
-      ∙ sym (class_at-classes_by (judged_points t) t.points (net_at t) k inside (has-points_below t.points k inside))
-      ∙ default_at (programmed_of t) k d (omega (arith, length-classes_by (judged_points t) t.points (net_at t))))
-    where
-      default_at : (xs : List ℕ) (k d : ℕ) → k < length xs → get_or xs k no_class ≡ get_or xs k d
-      default_at [] k d l = absurd (omega arith)
-      default_at (x ∷ xs) zero d l = refl
-      default_at (x ∷ xs) (suc k) d l = default_at xs k d (omega arith)
+      ∙ ap (λ (m : ℕ). map (head_class t) (points_below m)) all
+      ∙ map-same (head_class t) (λ p. cond (has (judged_points t) p) (first_with (net_at t) (judged_points t) (net_at t p)) no_class)
+      (λ p. class_is p (has (judged_points t) p) refl) (points_below t.points)
 
   pub programmed_valid : t.points < 2 ^ 16 → IsPartitionValue (programmed_of t)
-  programmed_valid few =
-      let size = length-classes_by (judged_points t) t.points (net_at t) in
-      let is = programmed-IsPartition t ok in
-      record {
-        partition = record {
-          least = λ p inside. partition-least (judged_points t) t.points (programmed_of t) 0 p is (points_below-AllBelow t.points) (range-ascends 0 t.points) (has-points_below t.points p (omega (arith, size)));
-          own = λ p inside. (partition-own (judged_points t) t.points (programmed_of t) p is (points_below-AllBelow t.points) (has-points_below t.points p (omega (arith, size)))).0;
-        };
-        few = omega (arith, size);
-      }
+  programmed_valid few = record {
+    partition = partition-classing (judged_points t) t.points (programmed_of t) few (judged-below t) (judged-ascends t) (programmed-IsPartition t ok);
+    few = omega (arith, length-classes_by (judged_points t) t.points (net_at t));
+  }
 
 pub named_read : (t self : NetTable) (i : ℕ) → t ≡ self → i < length t.named → get_or t.named i [] ≡ get_or (all_nets self) i []
 named_read t self i view l = sym (get_or_append_left t.named (map single (lone_points t)) [] i l) ∙ ap (λ (u : NetTable). get_or (all_nets u) i []) view
 
--- the next point's class is the first point of its net
-pub class_more : (t : NetTable) (classes grown net : List ℕ) (p x number : ℕ) → classes ≡ map (λ q. get_or (get_or (all_nets t) (net_at t q) []) 0 0) (points_below p) →
-    number ≡ net_at t p → net ≡ get_or (all_nets t) number [] → 0 < length net → x ≡ get_or net 0 x → grown ≡ classes ++ x ∷ [] →
-    grown ≡ map (λ q. get_or (get_or (all_nets t) (net_at t q) []) 0 0) (points_below (p + 1))
-class_more t classes grown net p x number is at here some read next =
-    let f : ℕ → ℕ = λ q. get_or (get_or (all_nets t) (net_at t q) []) 0 0 in
-    let first : x ≡ f p = get_or_read net 0 x some read 0 ∙ ap (λ (xs : List ℕ). get_or xs 0 0) (here ∙ ap (λ (i : ℕ). get_or (all_nets t) i []) at) in
-    next ∙ ap (λ (xs : List ℕ). xs ++ x ∷ []) is ∙ ap (λ (y : ℕ). map f (points_below p) ++ y ∷ []) first ∙ sym (map-range_with_len_more f 0 p p (omega arith))
+-- one more class
+pub class_more : (t : NetTable) (classes grown : List ℕ) (p x : ℕ) → classes ≡ map (head_class t) (points_below p) → x ≡ head_class t p → grown ≡ classes ++ x ∷ [] → grown ≡ map (head_class t) (points_below (p + 1))
+class_more t classes grown p x is first next =
+    next ∙ ap (λ (xs : List ℕ). xs ++ x ∷ []) is ∙ ap (λ (y : ℕ). map (head_class t) (points_below p) ++ y ∷ []) first ∙ sym (map-range_with_len_more (head_class t) 0 p p (omega arith))
+
+-- the head of the net of a judged point, as it is read
+pub head_read : (t : NetTable) (net : List ℕ) (p x number : ℕ) → has (judged_points t) p ≡ true → number ≡ net_at t p → net ≡ get_or (all_nets t) number [] → 0 < length net → x ≡ get_or net 0 x → x ≡ head_class t p
+head_read t net p x number counts at here some read =
+    get_or_read net 0 x some read 0 ∙ ap (λ (xs : List ℕ). get_or xs 0 0) (here ∙ ap (λ (i : ℕ). get_or (all_nets t) i []) at) ∙ sym (rw counts refl)
+
+pub no_head : (t : NetTable) (p x : ℕ) → has (judged_points t) p ≡ false → x ≡ no_class → x ≡ head_class t p
+no_head t p x none is = is ∙ sym (rw none refl)
+
+-- the first point of an ascending net is its head
+pub head_first : (net : List ℕ) (x : ℕ) → 0 < length net → IsStrictlyIncreasing net → x ≡ get_or net 0 x → x ≡ head_of net
+head_first [] x some up read = absurd (omega arith)
+head_first (p ∷ ps) x some up read = read ∙ sym (head_of-first p ps up)
+
+pub head_judged : (t : NetTable) → IsNetTable t → (i : ℕ) → i < net_count t → has (judged_points t) (head_of (get_or (all_nets t) i [])) ≡ true
+head_judged t ok i inside =
+    let facts = net_facts t ok in
+    facts.judged_in (i, get_or (all_nets t) i []) (head_of (get_or (all_nets t) i [])) (number_at t ok i inside) (facts.head_in (i, get_or (all_nets t) i []) (number_at t ok i inside))

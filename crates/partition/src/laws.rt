@@ -1,10 +1,10 @@
 //! The laws of the definitions, each the contract of a function that does nothing.
 
-ghost use Rattle.std.specs.Prelude.{List, ℕ, ◌≤◌, ◌↔◌, length};
-ghost use Rattle.partition.specs.Classes.{points_below, AllBelow, JoinsBelow, IsPartition};
-ghost use Rattle.partition.specs.Partitions.{IsPartitionOfAll};
+ghost use Rattle.std.specs.Prelude.{List, ℕ, ◌<◌, ◌≤◌, ◌^◌, ◌↔◌, length};
+ghost use Rattle.partition.specs.Classes.{points_below, judged_in, AllBelow, JoinsBelow, IsPartition};
+ghost use Rattle.partition.specs.Partitions.{IsClassing, IsPartitionOfAll};
 ghost use Rattle.partition.specs.NetTable.{NetTable, IsNetTable, judged_points};
-ghost use Rattle.partition.specs.Laws.{LabelLaw, PartitionLaw, JudgedLaw, EqualLaw, WalkLaw, JoinLaw, NetLaw, HeadLaw, DifferenceLaw, DigitLaw};
+ghost use Rattle.partition.specs.Laws.{LabelLaw, PartitionLaw, JudgedLaw, EqualLaw, WalkLaw, JoinLaw, NetLaw, HeadLaw, DigitLaw};
 
 /// Points of equal label are the classes of a partition.
 pub fn labels_make_classes()
@@ -19,6 +19,11 @@ pub fn partitions_have_least_points()
 /// A partition of all points is one of the points below their number.
 pub fn partitions_of_all_points()
     ensures { (m : List ℕ) → IsPartitionOfAll m ↔ IsPartition (points_below (length m)) (length m) m }
+{}
+
+/// A partition in which some points have no class is one of the points that have one.
+pub fn classes_are_of_the_points_with_one()
+    ensures { (m : List ℕ) → length m < 2 ^ 16 → IsClassing m ↔ IsPartition (judged_in m) (length m) m }
 {}
 
 /// The points that count are those with a class.
@@ -49,11 +54,6 @@ pub fn nets_are_classes()
 /// The head of a net whose points ascend is its first point.
 pub fn heads_come_first()
     ensures { HeadLaw }
-{}
-
-/// The three lists determine the partition, and are all empty exactly where it is the programmed one.
-pub fn difference_determines_partition()
-    ensures { (t : NetTable) (m : List ℕ) → IsNetTable t → IsPartition (judged_points t) t.points m → DifferenceLaw t m }
 {}
 
 /// Different numbers differ in one of the digits that the greatest of them needs.

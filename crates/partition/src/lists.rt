@@ -21,6 +21,43 @@ impl Model for PointLists {
     ghost view = { λ l. l.lists.items };
 }
 
+impl PointLists {
+    ghost use Rattle.std.specs.Prelude.{◌≡◌, ◌++◌, ◌∷◌, ◌<◌, [], length, slice_index_or, OnOk, OnErr};
+
+    /// The empty list.
+    pub fn new(alloc: Global) -> Self
+        ensures { result ≡ [] }
+    {
+        PointLists {
+            lists: Vec::new(alloc),
+        }
+    }
+
+    /// How many groups there are.
+    pub fn len(&self) -> usize
+        ensures { result ≡ length self.now }
+    {
+        self.lists.len()
+    }
+
+    /// The points of the group with this number.
+    pub fn get(&self, i: usize) -> &[Point]
+        requires { i < length self.now }
+        ensures { result.now ≡ slice_index_or self.now i [] }
+    {
+        self.lists[i].as_slice()
+    }
+
+    /// Appends a group.
+    pub fn push(&mut self, group: PointList) -> Result<(), Memory>
+        ensures ok { OnOk result (self.new ≡ self.old ++ group ∷ []) }
+        ensures err { OnErr result (self.new ≡ self.old) }
+    {
+        self.lists.push(group)?;
+        Ok(())
+    }
+}
+
 /// The nets of a wirelist as they are listed, each as its points.
 #[derive(Debug, Drop)]
 pub struct NetLists {
@@ -36,6 +73,7 @@ impl Model for NetLists {
 }
 
 impl NetLists {
+    ghost use Rattle.std.specs.List.{concat};
     ghost use Rattle.std.specs.Prelude.{◌≡◌, ◌++◌, ◌∷◌, ◌<◌, ◌↔◌, [], length, slice_index_or, slice_set, replicate, IsTrue, IfOk, OnOk, OnErr};
 
     /// The empty list.
@@ -88,7 +126,7 @@ impl NetLists {
     }
 
     /// A list of so many nets without points.
-    pub(crate) fn empty_nets(alloc: Global, count: usize) -> Result<Self, Memory>
+    pub fn empty_nets(alloc: Global, count: usize) -> Result<Self, Memory>
         ensures { IfOk result (λ lists. lists ≡ replicate count []) }
     {
         let mut lists = Vec::new(alloc);
@@ -99,12 +137,23 @@ impl NetLists {
     }
 
     /// Appends a point to the net with this number.
-    pub(crate) fn add(&mut self, i: usize, point: Point) -> Result<(), Memory>
+    pub fn add(&mut self, i: usize, point: Point) -> Result<(), Memory>
         requires { i < length self.old }
         ensures ok { OnOk result (self.new ≡ slice_set self.old i (slice_index_or self.old i [] ++ point ∷ [])) }
     {
         let net = &mut self.lists[i];
         net.push(point)
+    }
+
+    /// All points, those of one net after those of another.
+    pub fn joined(&self, alloc: Global) -> Result<PointList, Memory>
+        ensures { IfOk result (λ points. points ≡ concat self.now) }
+    {
+        let mut points = PointList::new(alloc);
+        for net in &self.lists {
+            points.append(net.as_slice())?;
+        }
+        Ok(points)
     }
 
     /// Appends a net.
@@ -118,7 +167,7 @@ impl NetLists {
 }
 
 /// Whether two slices have the same points.
-fn same_points(a: &[Point], b: &[Point]) -> bool
+pub(crate) fn same_points(a: &[Point], b: &[Point]) -> bool
     ensures { IsTrue result ↔ (a.now ≡ b.now) }
 {
     a == b
@@ -139,7 +188,32 @@ impl Model for NetNumbers {
 }
 
 impl NetNumbers {
-    ghost use Rattle.std.specs.Prelude.{◌≡◌, length};
+    ghost use Rattle.std.specs.Prelude.{◌≡◌, ◌++◌, ◌∷◌, [], length, IfOk, OnOk};
+
+    /// The empty list.
+    pub fn new(alloc: Global) -> Self
+        ensures { result ≡ [] }
+    {
+        NetNumbers {
+            numbers: Vec::new(alloc),
+        }
+    }
+
+    /// A copy of a slice.
+    pub fn from_slice(alloc: Global, numbers: &[u32]) -> Result<Self, Memory>
+        ensures { IfOk result (λ list. list ≡ numbers.now) }
+    {
+        let numbers = Vec::from_slice(alloc, numbers)?;
+        Ok(NetNumbers { numbers })
+    }
+
+    /// Appends a number.
+    pub fn push(&mut self, number: u32) -> Result<(), Memory>
+        ensures { OnOk result (self.new ≡ self.old ++ number ∷ []) }
+    {
+        self.numbers.push(number)?;
+        Ok(())
+    }
 
     /// The list of a `Vec`, which takes no memory.
     pub fn from_vec(numbers: Vec<u32>) -> Self

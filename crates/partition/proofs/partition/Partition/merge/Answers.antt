@@ -1,7 +1,8 @@
-use Rattle.std.proofs.Common.{◌≡◌, sym, ◌∙◌, ap, subst, arith, take, drop, length, ◌++◌, map, cond, eqb}
+use Rattle.std.proofs.Common.{◌≡◌, ℕ, List, sym, ◌∙◌, ap, subst, arith, take, drop, length, ◌++◌, map, cond, eqb}
 use Rattle.partition.specs.Classes.{merged}
-use Rattle.partition.specs.Partitions.{IsPartitionValue}
-use Rattle.partition.proofs.MergeLemmas.{merged-valid, merged-is, written-back}
+use Rattle.partition.specs.Partitions.{IsOver, IsPartitionValue, JoinsBesides}
+use Rattle.partition.proofs.JudgedPartition.{merged-over}
+use Rattle.partition.proofs.MergeLemmas.{merged-joins, merged-valid, merged-is, written-back}
 use Rattle.partition.proofs.partition.Partition.merge.Goals as goal
 
 made : (c : goal.After-self-1) → take c.self.inside.classes.len (c.relabel.new.classes ++ drop (length c.relabel.new.classes) c.self.inside.classes.items) ≡ merged c.args.self.now c.args.a c.args.b
@@ -14,5 +15,13 @@ made c =
 pub invariant_of-self : goal.invariant_of-self
 invariant_of-self c = subst IsPartitionValue (sym (made c)) (merged-valid c.args.self.now c.args.a c.args.b c.requires.a c.requires.b (subst IsPartitionValue c.self.view_is c.self.invariant))
 
-pub returns : goal.returns
-returns c = made c
+pub returns-clause-merged : goal.returns-clause-merged
+returns-clause-merged c = made c
+
+pub returns-clause-over : goal.returns-clause-over
+returns-clause-over c =
+    subst (IsOver c.args.self.now) (sym (made c)) (merged-over c.args.self.now c.args.a c.args.b c.requires.a c.requires.b (subst IsPartitionValue c.self.view_is c.self.invariant).partition)
+
+pub returns-clause-together : goal.returns-clause-together
+returns-clause-together c =
+    subst (λ (new : List ℕ). JoinsBesides c.args.self.now new c.args.a c.args.b) (sym (made c)) (merged-joins c.args.self.now c.args.a c.args.b c.requires.a c.requires.b)

@@ -1,0 +1,10 @@
+pub mod RebuildLaw
+pub mod EmptyLaw
+pub mod PieceRuns
+pub mod PieceOrder
+pub mod MeasuredLemmas
+pub mod LabelSteps
+pub mod StraySteps
+pub mod InRange
+pub mod DifferenceRange
+pub mod Judging
