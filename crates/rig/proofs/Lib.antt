@@ -1,4 +1,11 @@
 pub mod Groups
+pub mod RowsBelow
 pub mod Reading
 pub mod TruthLaw
 pub mod Counting
+pub mod Happening
+pub mod CallEvents
+pub mod Down
+pub mod Waiting
+pub mod Order
+pub mod Tallies

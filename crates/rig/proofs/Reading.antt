@@ -1,10 +1,9 @@
 -- One reading after the other.
 use Rattle.std.proofs.Common.{◌≡◌, ◌↔◌, ◌≤◌, ◌+◌, ◌-◌, ℕ, Bool, List, [], ◌∷◌, ◌++◌, length, Option, Some, None, Result, Ok, Err, IsTrue, refl, sym, ◌∙◌, ap, subst, arith, append_assoc, append-nil, add-zero, add_assoc, length-append}
-use Rattle.std.specs.Prelude.{All, IsSomeAnd, IfSome, IfNone, IfOk, IsErrAnd, option_map}
+use Rattle.std.specs.Prelude.{All, IsSomeAnd, IfSome, IfNone, IfOk, IsErrAnd}
 use Rattle.std.specs.Result.{result_err}
 use Rattle.std.proofs.lemmas.List.{get_or_push, get_or_append_left}
 use Rattle.std.proofs.lemmas.List.Elements.{All-push, All-nil, All-cons, All-append}
-use Rattle.partition.specs.Classes.{JoinsBelow}
 use Rattle.rig.specs.declared.event.Event.{Event}
 use Rattle.rig.specs.declared.event.Event.TheVariants.{Reading}
 use Rattle.rig.specs.declared.event.Tally.{Tally}
@@ -12,11 +11,12 @@ use Rattle.rig.specs.declared.rig.RigStop.{RigStop}
 use Rattle.rig.specs.declared.rig.RigStop.TheVariants.{Memory}
 use Rattle.rig.specs.RigState.{RigState}
 use Rattle.rig.specs.Trail.{Agrees, AgreesWith, Extends, IsReading}
-use Rattle.rig.specs.Calls.{AreGroups, AreJoined, Conducts, recorded, counted, with_readings}
-use Rattle.rig.specs.Seating.{IsFaithful, IsTrueOf, IsSeating, Seats}
+use Rattle.rig.specs.Happened.{recorded}
+use Rattle.rig.specs.Calls.{AreGroups, AreJoined, Conducts, counted, with_readings}
+use Rattle.rig.specs.Seating.{emptied, IsFaithful, IsTrueOf, IsSeating, Seats}
 use Rattle.rig.specs.declared.rig.SeatAnswer.TheVariants.{Present}
 use Rattle.rig.specs.declared.unit.Row.{Row}
-use Rattle.rig.specs.Joins.{joins_of}
+use Rattle.rig.specs.Joins.{IsRowBelow}
 use Rattle.rig.specs.Readings.{Reads, Teaches}
 
 -- tallies
@@ -58,7 +58,7 @@ Extends-recorded P e None kind = refl
 Extends-recorded P e (Some t) kind = (e ∷ [], All-cons P e [] kind (All-nil P), refl)
 
 -- what holds of the events of a trail holds of those of its beginning, and of its last event
-Extends-agrees : (P K : Event → Type 0) (s t : Option (List Event)) → Extends K s t → IsSomeAnd t (All P) → IsSomeAnd s (All P)
+pub Extends-agrees : (P K : Event → Type 0) (s t : Option (List Event)) → Extends K s t → IsSomeAnd t (All P) → IsSomeAnd s (All P)
 Extends-agrees P K None t is all = let Q : Option (List Event) → Type 0 = λ v. IsSomeAnd v (All P) in subst Q is all
 Extends-agrees P K (Some s) t (more, kind, is) all =
     let Q : Option (List Event) → Type 0 = λ v. IsSomeAnd v (All P) in
@@ -81,8 +81,8 @@ pub Reads-none : (s : RigState) → Reads s s None
 Reads-none s = record {
   frame = refl;
   cause = record { later = omega arith; rose = λ is. cc };
-  within = λ h. h;
-  tells = λ h. h;
+  no_fault = λ calm. refl;
+  told = λ h. h;
   spent = omega arith;
   trail = Extends-refl IsReading s.trail;
   tallies = (0, sym (counted-0 s.tallies));
@@ -98,10 +98,10 @@ more_answered s t u (Some e) first second before now = tt
 
 pub Reads-then : {s t u : RigState} {stop : Option RigStop} → Reads s t None → Reads t u stop → Reads s u stop
 Reads-then {s} {t} {u} {stop} first second = record {
-  frame = second.frame ∙ ap (λ (v : RigState). record v { faults = u.faults; spent = u.spent; trail = u.trail; tallies = u.tallies }) first.frame;
+  frame = second.frame ∙ ap (λ (v : RigState). record v { faults = u.faults; spare = u.spare; spent = u.spent; trail = u.trail; tallies = u.tallies }) first.frame;
   cause = record { later = omega (arith, first.cause.later, second.cause.later); rose = λ is. omega (arith, first.cause.later, second.cause.rose is) };
-  within = λ h. second.within (first.within h);
-  tells = λ h. second.tells (first.tells h);
+  no_fault = λ calm. second.no_fault calm ∙ first.no_fault (λ is. cc);
+  told = λ h. second.told (first.told h);
   spent = omega arith;
   trail = Extends-trans IsReading s.trail t.trail u.trail first.trail second.trail;
   tallies = (first.tallies.0 + second.tallies.0, second.tallies.1 ∙ ap (counted second.tallies.0) first.tallies.1 ∙ counted-add first.tallies.0 second.tallies.0 s.tallies);
@@ -119,8 +119,8 @@ Reads-no_memory reads (Ok x) is = absurd is
 Reads-no_memory reads (Err e) is = record {
   frame = reads.frame;
   cause = record { later = reads.cause.later; rose = λ failed. cc };
-  within = reads.within;
-  tells = reads.tells;
+  no_fault = λ calm. reads.no_fault (λ is. cc);
+  told = reads.told;
   spent = reads.spent;
   trail = reads.trail;
   tallies = reads.tallies;
@@ -134,10 +134,10 @@ AreGroups-after {old} {new} {stop} {a} {b} reads groups = let P : ℕ → Type 0
 
 pub Reads-conducts : {old new : RigState} {a b : List ℕ} (result : Result Bool RigStop) → Conducts old new a b result → Reads old new (result_err result)
 Reads-conducts {old} {new} {a} {b} (Ok met) call = record {
-  frame = call.ok ∙ sym (ap (λ (s : RigState). record old { faults = s.faults; spent = s.spent; trail = s.trail; tallies = s.tallies }) call.ok);
-  cause = call.cause;
-  within = λ h. call.within;
-  tells = λ h. call.tells;
+  frame = call.ok ∙ sym (ap (λ (s : RigState). record old { faults = s.faults; spare = s.spare; spent = s.spent; trail = s.trail; tallies = s.tallies }) call.ok);
+  cause = call.called.cause;
+  no_fault = call.called.no_fault;
+  told = λ h. call.called.told;
   spent = omega (arith, ap (λ (s : RigState). s.spent) call.ok);
   trail = let P : Option (List Event) → Type 0 = λ v. Extends IsReading old.trail v in subst P (sym (ap (λ (s : RigState). s.trail) call.ok)) (Extends-recorded IsReading (Reading a b met) old.trail tt);
   tallies = (1, ap (λ (s : RigState). s.tallies) call.ok);
@@ -146,10 +146,10 @@ Reads-conducts {old} {new} {a} {b} (Ok met) call = record {
       ap (λ (s : RigState). s.tallies) call.ok ∙ ap (λ (n : ℕ). counted n old.tallies) one;
 }
 Reads-conducts {old} {new} {a} {b} (Err e) call = record {
-  frame = call.err ∙ sym (ap (λ (s : RigState). record old { faults = s.faults; spent = s.spent; trail = s.trail; tallies = s.tallies }) call.err);
-  cause = call.cause;
-  within = λ h. call.within;
-  tells = λ h. call.tells;
+  frame = call.err ∙ sym (ap (λ (s : RigState). record old { faults = s.faults; spare = s.spare; spent = s.spent; trail = s.trail; tallies = s.tallies }) call.err);
+  cause = call.called.cause;
+  no_fault = call.called.no_fault;
+  told = λ h. call.called.told;
   spent = call.spent.0;
   trail = let P : Option (List Event) → Type 0 = λ v. Extends IsReading old.trail v in subst P (sym (ap (λ (s : RigState). s.trail) call.err)) (Extends-refl IsReading old.trail);
   tallies = (0, ap (λ (s : RigState). s.tallies) call.err ∙ sym (counted-0 old.tallies));
@@ -179,43 +179,47 @@ IsFaithful-conducts {old} {new} {a} {b} (Ok met) groups call before =
     subst IsFaithful (sym call.ok) (λ honest. faithful_recorded old.points (Reading a b met) old.truth old.trail (faithful_answer old.points a b met old.truth groups (call.truth honest)) (before honest))
 IsFaithful-conducts {old} {new} {a} {b} (Err e) groups call before = subst IsFaithful (sym call.err) before
 
-in_range-frame : (old new : RigState) → new.truth ≡ old.truth → new.points ≡ old.points → IfSome old.truth (λ rows. JoinsBelow (joins_of rows) old.points) → IfSome new.truth (λ rows. JoinsBelow (joins_of rows) new.points)
+in_range-frame : (old new : RigState) → new.truth ≡ old.truth → new.points ≡ old.points → IfSome old.truth (All (IsRowBelow old.points)) → IfSome new.truth (All (IsRowBelow new.points))
 in_range-frame old new truth points h =
-    let P : Option (List Row) → Type 0 = λ o. IfSome o (λ rows. JoinsBelow (joins_of rows) new.points) in
-    let Q : ℕ → Type 0 = λ n. IfSome old.truth (λ rows. JoinsBelow (joins_of rows) n) in
+    let P : Option (List Row) → Type 0 = λ o. IfSome o (All (IsRowBelow new.points)) in
+    let Q : ℕ → Type 0 = λ n. IfSome old.truth (All (IsRowBelow n)) in
     subst P (sym truth) (subst Q (sym points) h)
 
-emptied : (n : ℕ) (truth : Option (List Row)) (old : Option (List Event)) → IfSome truth (λ rows. IfSome (option_map (λ _. []) old) (All (IsTrueOf rows n)))
-emptied n None old = tt
-emptied n (Some rows) None = tt
-emptied n (Some rows) (Some events) = All-nil (IsTrueOf rows n)
+none_yet : (n : ℕ) (truth : Option (List Row)) (old : Option (List Event)) → IfSome truth (λ rows. IfSome (emptied old) (All (IsTrueOf rows n)))
+none_yet n None old = tt
+none_yet n (Some rows) None = tt
+none_yet n (Some rows) (Some events) = All-nil (IsTrueOf rows n)
 
 -- a unit that was found is seated
 pub IsSeating-seats : {old new : RigState} {serial : List ℕ} {attempt : ℕ} → old.volts ≡ 0 → Seats old new serial attempt (Ok Present) → IsSeating new
 IsSeating-seats {old} {new} unpowered call =
     let frame = call.present refl in
-    let P : ℕ → Type 0 = λ n. IfSome new.truth (λ rows. JoinsBelow (joins_of rows) n) in
+    let P : ℕ → Type 0 = λ n. IfSome new.truth (All (IsRowBelow n)) in
     let Q : Option (List Event) → Type 0 = λ trail. IfSome new.truth (λ rows. IfSome trail (All (IsTrueOf rows new.points))) in
     record {
-      seated = ap (λ (s : RigState). s.seated) frame;
+      unit = record {
+        seated = ap (λ (s : RigState). s.seated) frame;
+        in_range = subst P (sym (ap (λ (s : RigState). s.points) frame)) (call.in_range refl);
+        faithful = λ honest. subst Q (sym (ap (λ (s : RigState). s.trail) frame)) (none_yet new.points new.truth old.trail);
+      };
       unpowered = ap (λ (s : RigState). s.volts) frame ∙ unpowered;
-      in_range = subst P (sym (ap (λ (s : RigState). s.points) frame)) (call.in_range refl);
-      faithful = λ honest. subst Q (sym (ap (λ (s : RigState). s.trail) frame)) (emptied new.points new.truth old.trail);
     }
 
 pub IsSeating-conducts : {old new : RigState} {a b : List ℕ} (result : Result Bool RigStop) → AreGroups old.points a b → Conducts old new a b result → IsSeating old → IsSeating new
 IsSeating-conducts {old} {new} result groups call seating =
     let reads = Reads-conducts result call in
     record {
-      seated = subst IsTrue (sym (ap (λ (s : RigState). s.seated) reads.frame)) seating.seated;
+      unit = record {
+        seated = subst IsTrue (sym (ap (λ (s : RigState). s.seated) reads.frame)) seating.unit.seated;
+        in_range = in_range-frame old new (ap (λ (s : RigState). s.truth) reads.frame) (ap (λ (s : RigState). s.points) reads.frame) seating.unit.in_range;
+        faithful = IsFaithful-conducts result groups call seating.unit.faithful;
+      };
       unpowered = ap (λ (s : RigState). s.volts) reads.frame ∙ seating.unpowered;
-      in_range = in_range-frame old new (ap (λ (s : RigState). s.truth) reads.frame) (ap (λ (s : RigState). s.points) reads.frame) seating.in_range;
-      faithful = IsFaithful-conducts result groups call seating.faithful;
     }
 
 pub Conducts-spent : {old new : RigState} {a b : List ℕ} (result : Result Bool RigStop) → Conducts old new a b result → new.spent ≤ old.spent + 1
 Conducts-spent (Ok met) call = omega (arith, ap (λ (s : RigState). s.spent) call.ok)
-Conducts-spent (Err e) call = call.spent.1
+Conducts-spent (Err e) call = omega (arith, call.spent.1)
 
 pub Conducts-answer : {old new : RigState} {a b : List ℕ} (result : Result Bool RigStop) → Conducts old new a b result → IfOk result (λ met. Conducts old new a b (Ok met))
 Conducts-answer (Ok met) call = call

@@ -1,9 +1,16 @@
 pub mod Joins
+pub mod Values
+pub mod EventRoom
 pub mod RigState
 pub mod Trail
+pub mod Source
+pub mod Happened
 pub mod Calls
 pub mod Seating
 pub mod Readings
+pub mod HvOrder
 pub mod States
+pub mod Powered
+pub mod Discharge
 pub mod Stops
 pub mod Laws

@@ -1,15 +1,18 @@
 //! What the readings so far have shown of the seated unit.
 
-ghost use Rattle.std.specs.Prelude.{◌≡◌, ◌≤◌, IfOk};
+ghost use Rattle.std.specs.Prelude.{◌≡◌, ◌<◌, ◌≤◌, IfOk};
 ghost use Rattle.std.specs.Result.{result_err};
-ghost use Rattle.rig.specs.Calls.{AreGroups, Conducts};
+ghost use Rattle.rig.specs.Calls.{AreGroups, Conducts, ReadsOhms, ReadsJunction, ReadsResidual, Ticks};
+ghost use Rattle.partition.specs.Partitions.{JoinsAllOf};
 ghost use Rattle.rig.specs.Readings.{Reads, Teaches};
 ghost use Rattle.rig.specs.Seating.{IsSeating};
-ghost use Rattle.rig.specs.States.{IsOfRig};
+ghost use Rattle.rig.specs.States.{IsOfRig, IsProven};
 ghost use Rattle.rig.specs.Trail.{Forces, Determines};
 
-use crate::{Rig, RigStop, Seated};
+use crate::{Permit, Rig, RigStop, Seated};
+use base::Memory;
 use partition::{Partition, Point};
+use std::alloc::Global;
 use std::marker::Model;
 
 /// A seated unit in which all is joined that the partition joins. Contracts see the rig and the partition.
@@ -45,7 +48,11 @@ impl<R: Rig> Model for Proven<R> {
 }
 
 impl<R: Rig> Continuous<R> {
-    /// Whether some point of the one group is joined with some point of the other.
+    /// Whether some point of the one group is joined with some point of the other: one group reading.
+    ///
+    /// # Errors
+    ///
+    /// `Failed` or `Memory`.
     pub fn conducts(&mut self, a: &[Point], b: &[Point]) -> Result<bool, RigStop>
         requires { AreGroups (R.state self.old.rig).points a.now b.now }
         ensures call { Conducts (R.state self.old.rig) (R.state self.new.rig) a.now b.now result }
@@ -116,6 +123,83 @@ impl<R: Rig> Continuous<R> {
 }
 
 impl<R: Rig> Proven<R> {
+    /// The milliohms between two points: 0 where they are joined, none where no resistor lies between their classes.
+    ///
+    /// # Errors
+    ///
+    /// `Failed` or `Memory`.
+    pub fn ohms(&mut self, a: Point, b: Point) -> Result<Option<u64>, RigStop>
+        requires first { a < (R.state self.old.rig).points }
+        requires second { b < (R.state self.old.rig).points }
+        ensures call { ReadsOhms (R.state self.old.rig) (R.state self.new.rig) a b result }
+        ensures same { self.new.partition ≡ self.old.partition }
+    {
+        self.seat.ohms(a, b)
+    }
+
+    /// The millivolts from one point to another: 0 where they are joined, none where no diode leads from the one class to the other.
+    ///
+    /// # Errors
+    ///
+    /// `Failed` or `Memory`.
+    pub fn junction(&mut self, from: Point, to: Point) -> Result<Option<u32>, RigStop>
+        requires first { from < (R.state self.old.rig).points }
+        requires second { to < (R.state self.old.rig).points }
+        ensures call { ReadsJunction (R.state self.old.rig) (R.state self.new.rig) from to result }
+        ensures same { self.new.partition ≡ self.old.partition }
+    {
+        self.seat.junction(from, to)
+    }
+
+    /// The leave to raise a voltage in this seating, between groups that no class of the bonds meets both of.
+    ///
+    /// # Errors
+    ///
+    /// `Memory` where memory ran out.
+    pub fn permit(&self, alloc: Global, bonds: &Partition) -> Result<Permit, Memory>
+        requires { JoinsAllOf bonds.now self.now.partition }
+        ensures { IfOk result (λ permit. permit ≡
+            record { seat = (R.state self.now.rig).seats; partition = self.now.partition; bonds = bonds.now }) }
+    {
+        let partition = self.partition.copy(alloc)?;
+        let bonds = bonds.copy(alloc)?;
+        Ok(Permit::new(self.seat.number(), partition, bonds))
+    }
+
+    /// The volts that are still on the unit.
+    pub(crate) fn residual(&mut self) -> Result<u16, RigStop>
+        ensures call { ReadsResidual (R.state self.old.rig) (R.state self.new.rig) result }
+        ensures same { self.new.partition ≡ self.old.partition }
+    {
+        self.seat.residual()
+    }
+
+    /// Lets a tick pass.
+    pub(crate) fn tick(&mut self) -> Result<(), RigStop>
+        ensures call { Ticks (R.state self.old.rig) (R.state self.new.rig) result }
+        ensures same { self.new.partition ≡ self.old.partition }
+    {
+        self.seat.tick()
+    }
+
+    /// A proven unit, without voltage.
+    pub(crate) fn around(seat: Seated<R>, partition: Partition) -> Proven<R>
+        requires { IsProven (R.state seat) partition }
+        ensures { result ≡ record { rig = seat; partition = partition } }
+    {
+        Proven { seat, partition }
+    }
+
+    /// The seated unit and its partition.
+    pub(crate) fn into_parts(self) -> (Seated<R>, Partition)
+        ensures rig { result.0 ≡ self.rig }
+        ensures partition { result.1 ≡ self.partition }
+        ensures proven { IsProven (R.state self.rig) self.partition }
+    {
+        let Proven { seat, partition } = self;
+        (seat, partition)
+    }
+
     /// The partition of the seated unit, which the readings so far determine.
     pub fn partition(&self) -> &Partition
         ensures same { result.now ≡ self.now.partition }
@@ -129,6 +213,7 @@ impl<R: Rig> Proven<R> {
     pub fn points(&self) -> u16
         ensures points { result ≡ (R.state self.now.rig).points }
         ensures some { 1 ≤ result }
+        ensures seating { IsSeating (R.state self.now.rig) }
     {
         self.seat.points()
     }

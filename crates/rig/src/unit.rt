@@ -5,10 +5,21 @@ use partition::{Name, Point};
 use std::alloc::Global;
 use std::marker::Model;
 
-/// A row of a unit: an element between two points.
+/// A row of a unit: an element between two points of the rig, or the charge that high voltage leaves on the unit.
 #[derive(Clone, Copy, Debug, PartialEq, Eq)]
 pub enum Row {
+    /// A wire between two points.
     Wire(Point, Point),
+    /// A resistor between two points, in milliohms. One of at most 10,000 is a join, as a wire is.
+    Resistor(Point, Point, u64),
+    /// A diode from one point to another, with its drop in millivolts.
+    Diode(Point, Point, u32),
+    /// A leak between two points, in picosiemens.
+    Leak(Point, Point, u64),
+    /// Two points that arc, and the volts from which on they do.
+    Arc(Point, Point, u16),
+    /// The volts that stay on the unit after a voltage, and for how many ticks they do.
+    Charge(u16, u16),
 }
 
 /// The rows of a unit, in the order of its lines.
@@ -27,7 +38,7 @@ impl Model for Rows {
 }
 
 impl Rows {
-    ghost use Rattle.std.specs.Prelude.{◌≡◌, ◌++◌, ◌∷◌, [], length, OnOk, OnErr};
+    ghost use Rattle.std.specs.Prelude.{◌≡◌, ◌↔◌, ◌++◌, ◌∷◌, [], length, IsTrue, OnOk, OnErr};
 
     /// The empty list.
     pub fn new(alloc: Global) -> Self
@@ -38,13 +49,32 @@ impl Rows {
         }
     }
 
+    /// The rows, in order.
     pub fn as_slice(&self) -> &[Row]
         ensures { result.now ≡ self.now }
     {
         self.rows.as_slice()
     }
 
+    /// The number of rows.
+    pub fn len(&self) -> usize
+        ensures { result ≡ length self.now }
+    {
+        self.rows.len()
+    }
+
+    /// Whether there is no row.
+    pub fn is_empty(&self) -> bool
+        ensures { IsTrue result ↔ (self.now ≡ []) }
+    {
+        self.rows.is_empty()
+    }
+
     /// Appends a row.
+    ///
+    /// # Errors
+    ///
+    /// `Memory` where memory ran out; the list stays as it was.
     pub fn push(&mut self, row: Row) -> Result<(), Memory>
         ensures ok { OnOk result (self.new ≡ self.old ++ row ∷ []) }
         ensures err { OnErr result (self.new ≡ self.old) }
@@ -57,8 +87,11 @@ impl Rows {
 /// A unit: one attempt, from 1 to 9, of one serial.
 #[derive(Debug, Drop)]
 pub struct Unit {
+    /// The serial, 1 to 24 bytes.
     pub serial: Name,
+    /// The attempt, 1 to 9.
     pub attempt: u8,
+    /// What lies between its points.
     pub rows: Rows,
 }
 
@@ -78,7 +111,7 @@ impl Model for Units {
 }
 
 impl Units {
-    ghost use Rattle.std.specs.Prelude.{◌≡◌, ◌++◌, ◌∷◌, [], length, OnOk, OnErr};
+    ghost use Rattle.std.specs.Prelude.{◌≡◌, ◌↔◌, ◌++◌, ◌∷◌, [], length, IsTrue, OnOk, OnErr};
 
     /// The empty list.
     pub fn new(alloc: Global) -> Self
@@ -89,19 +122,32 @@ impl Units {
         }
     }
 
+    /// The units, in order.
     pub fn as_slice(&self) -> &[Unit]
         ensures { result.now ≡ self.now }
     {
         self.units.as_slice()
     }
 
+    /// The number of units.
     pub fn len(&self) -> usize
         ensures { result ≡ length self.now }
     {
         self.units.len()
     }
 
+    /// Whether there is no unit.
+    pub fn is_empty(&self) -> bool
+        ensures { IsTrue result ↔ (self.now ≡ []) }
+    {
+        self.units.is_empty()
+    }
+
     /// Appends a unit.
+    ///
+    /// # Errors
+    ///
+    /// `Memory` where memory ran out; the list stays as it was.
     pub fn push(&mut self, unit: Unit) -> Result<(), Memory>
         ensures ok { OnOk result (self.new ≡ self.old ++ unit ∷ []) }
         ensures err { OnErr result (self.new ≡ self.old) }
