@@ -5,3 +5,6 @@ pub mod Locating
 pub mod MergedHeads
 pub mod NetHeads
 pub mod Separating
+pub mod JudgedCounts
+pub mod Splitting
+pub mod Meetings

@@ -3,7 +3,6 @@ use Rattle.std.proofs.Common.{◌≡◌, ◌≢◌, inl, inr, ℕ, zero, suc, �
 use Rattle.std.proofs.lemmas.Bool.{cases_eq}
 use Rattle.std.proofs.lemmas.Bool.Decides.{eqb_tells}
 use Rattle.partition.specs.Classes.{class_at, merged}
-use Rattle.partition.specs.Partitions.{IsPartitionOfAll}
 use Rattle.partition.specs.Heads.{heads_below}
 use Rattle.partition.proofs.HeadLemmas.{heads_below-head, heads_below-other}
 use Rattle.partition.proofs.WalkLaws.{merged_class}
@@ -15,11 +14,13 @@ heads_below-agree m other (suc n) same =
     let before = heads_below-agree m other n (λ p less. same p (omega arith)) in
     let here = same n (omega arith) in
     elim (cases_eq (class_at m n) n) as (λ _. heads_below m (suc n) ≡ heads_below other (suc n)) [
-      | inl head ↦ rw add-one at (heads_below-head m n head) ∙ ap (λ (l : List ℕ). l ++ n ∷ []) before ∙ sym (rw add-one at (heads_below-head other n (sym here ∙ head)))
+      | inl head ↦ rw add-one at (heads_below-head m n head) ∙ ap (λ (l : List ℕ). l ++ n ∷ []) before
+          ∙ sym (rw add-one at (heads_below-head other n (sym here ∙ head)))
       | inr below ↦ rw add-one at (heads_below-other m n below) ∙ before ∙ sym (rw add-one at (heads_below-other other n (λ is. below (here ∙ is))))
     ]
 
-module _ (m : List ℕ) (a b : ℕ) (part : IsPartitionOfAll m) (in_a : a < length m) (in_b : b < length m) (own_a : class_at m a ≡ a) (own_b : class_at m b ≡ b) (two : a ≢ b) where
+module _ (m : List ℕ) (a b : ℕ) (low : (p : ℕ) → p < length m → class_at m p ≡ max a b → class_at m p ≤ p) (in_a : a < length m) (in_b : b < length m)
+    (own_a : class_at m a ≡ a) (own_b : class_at m b ≡ b) (two : a ≢ b) where
   -- the points of the one class get the lesser number
   pub merged-moved : (p : ℕ) → p < length m → class_at m p ≡ max a b → class_at (merged m a b) p ≡ min a b
   merged-moved p inside is =
@@ -38,7 +39,8 @@ module _ (m : List ℕ) (a b : ℕ) (part : IsPartitionOfAll m) (in_a : a < leng
 
   -- below the greater of the two heads nothing changes
   pub merged-heads_below : (n : ℕ) → n ≤ max a b → heads_below (merged m a b) n ≡ heads_below m n
-  merged-heads_below n low = heads_below-agree (merged m a b) m n (λ p less. merged-stays p (omega arith) (λ is. let least = part.least p (omega arith) in absurd (omega (arith, is, least))))
+  merged-heads_below n under = heads_below-agree (merged m a b) m n (λ p less. merged-stays p (omega arith)
+      (λ is. let least = low p (omega arith) is in absurd (omega (arith, is, least))))
 
   -- which is a head no more
   pub merged-not_head : class_at (merged m a b) (max a b) ≢ max a b

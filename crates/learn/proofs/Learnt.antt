@@ -7,25 +7,26 @@ use Rattle.std.proofs.lemmas.Bool.{cases_lt}
 use Rattle.std.proofs.lemmas.List.{length_push}
 use Rattle.std.proofs.lemmas.List.Elements.{Contains-push_cases, Contains-get_or}
 use Rattle.std.proofs.lemmas.List.FromFn.{length-range_with_len}
-use Rattle.partition.specs.Classes.{points_below, class_at, Same, merged}
-use Rattle.partition.specs.Partitions.{IsPartitionOfAll}
+use Rattle.partition.specs.Classes.{points_below, class_at, Same, merged, no_class}
+use Rattle.partition.specs.Partitions.{HasClass, IsPartitionOfAll}
+use Rattle.partition.proofs.JudgedPartition.{all-class, all-classing, class-inside}
 use Rattle.partition.specs.Digits.{digits_of}
 use Rattle.partition.specs.Heads.{heads_below, heads}
 use Rattle.partition.proofs.DigitLaws.{digits_least}
 use Rattle.partition.proofs.DigitsLemmas.{digits-mono}
-use Rattle.partition.proofs.HeadLemmas.{heads_below-are, heads_below-head, heads_below-other, heads_below-increasing, length-heads_below-grows, singles_valid}
+use Rattle.partition.proofs.HeadLemmas.{heads_below-are, heads_below-head, heads_below-other, heads_below-increasing, length-heads_below-grows}
 use Rattle.partition.proofs.WalkLaws.{point_class, length-merged}
 use Rattle.partition.proofs.JoinedPartition.{merged-own}
 use Rattle.rig.specs.RigState.{RigState}
 use Rattle.rig.specs.Calls.{AreGroups}
-use Rattle.rig.specs.Trail.{Agrees}
 use Rattle.rig.specs.Readings.{Reads}
 use Rattle.rig.specs.States.{IsProven}
-use Rattle.rig.proofs.Reading.{Reads-none, Reads-then, Agrees-before}
+use Rattle.rig.proofs.Reading.{Reads-none, Reads-then}
 use Rattle.rig.proofs.Groups.{IsGroup-one, Contains-one}
-use Rattle.learn.specs.Groups.{AreOne, DoNotMeet}
+use Rattle.learn.specs.Groups.{AreOne, DoNotMeet, IsPossible}
 use Rattle.learn.specs.Learned.{IsWithinMost, most_readings}
 use Rattle.learn.proofs.Determined.{forced, determined, HeadsApart}
+use Rattle.learn.proofs.Possible.{IsPossible-before, IsPossible-over}
 use Rattle.learn.proofs.HeadMerge.{merged-moved, merged-stays, merged-heads_below}
 
 -- Each point below i is joined with its head, and no two heads below i are joined; the points from i on are alone.
@@ -36,7 +37,7 @@ pub record Learning (start now : RigState) (classes list : List ℕ) (i : ℕ) :
   pub partition : IsPartitionOfAll classes
   pub heads : list ≡ heads_below classes i
   pub single : (p : ℕ) → i ≤ p → p < length classes → class_at classes p ≡ p
-  pub known : (other : List ℕ) → Agrees now other → (p : ℕ) → p < i → Same other (class_at classes p) p
+  pub known : (other : List ℕ) → IsPossible now other → (p : ℕ) → p < i → Same other (class_at classes p) p
   pub apart : HeadsApart now list
   pub reads : Reads start now None
   pub low : start.spent + i ≤ now.spent + length list
@@ -49,11 +50,15 @@ Learning-start s n is some few =
       size = size ∙ is;
       some = omega (arith, size);
       few = omega (arith, size);
-      partition = (singles_valid n few).partition;
+      partition = record {
+        least = λ p inside. omega (arith, point_class n p (omega (arith, size)));
+        own = λ p inside. ap (class_at (points_below n))
+            (point_class n p (omega (arith, size)));
+      };
       heads = refl;
       single = λ p from inside. point_class n p (omega (arith, size));
-      known = λ other agrees p less. absurd (omega arith);
-      apart = λ other agrees a b in_a in_b same. absurd (let none = in_a.1 in omega arith);
+      known = λ other possible p less. absurd (omega arith);
+      apart = λ other possible a b has_a in_a in_b same. absurd (let none = in_a.1 in omega arith);
       reads = Reads-none s;
       low = omega arith;
       high = omega arith;
@@ -68,7 +73,13 @@ more_product i h d le = let e : i + 1 - h ≡ (i - h) + 1 = omega arith in rw e 
 
 module _ {start now : RigState} {classes list : List ℕ} {i : ℕ} (so_far : Learning start now classes list i) where
   few_heads : length list ≤ i
-  few_heads = let at : 0 + i ≡ i = omega arith in omega (arith, ap length so_far.heads, length-heads_below-grows classes 0 i, ap (λ (n : ℕ). length (heads_below classes n)) at)
+  few_heads = let at : 0 + i ≡ i = omega arith in omega (
+    arith,
+    ap length so_far.heads,
+    length-heads_below-grows classes 0 i,
+    ap
+        (λ (n : ℕ). length (heads_below classes n)) at,
+  )
 
   head_below : (h : ℕ) → Contains list h → (h < i) × (class_at classes h ≡ h)
   head_below h in' = let P : List ℕ → Type 0 = λ l. Contains l h in heads_below-are classes i h (subst P so_far.heads in')
@@ -92,7 +103,8 @@ module _ {start now : RigState} {classes list : List ℕ} {i : ℕ} (so_far : Le
   }
 
   -- a refused reading is within the bound
-  pub Learning-stopped : {next : RigState} → i < length classes → next.spent ≤ now.spent + min 1 (length list) + digits_of (length list - 1) → IsWithinMost start next
+  pub Learning-stopped : {next : RigState} → i < length classes → next.spent ≤ now.spent + min 1 (length list) + digits_of (length list - 1)
+      → IsWithinMost start next
   Learning-stopped {next} inside spent =
       let d = digits_of (length list - 1) in
       elim (cases_lt 0 (length list)) as (λ _. IsWithinMost start next) [
@@ -117,7 +129,8 @@ module _ {start now : RigState} {classes list : List ℕ} {i : ℕ} (so_far : Le
       ]
 
   -- no head is joined with the next point
-  pub Learning-new : {next : RigState} {more : List ℕ} → i < length classes → Reads now next None → DoNotMeet next list (i ∷ []) → next.spent ≤ now.spent + min 1 (length list) → more ≡ list ++ i ∷ [] → Learning start next classes more (i + 1)
+  pub Learning-new : {next : RigState} {more : List ℕ} → i < length classes → Reads now next None → DoNotMeet next list (i ∷ [])
+      → next.spent ≤ now.spent + min 1 (length list) → more ≡ list ++ i ∷ [] → Learning start next classes more (i + 1)
   Learning-new {next} {more} inside reads apart spent is =
       let single = so_far.single i (omega arith) inside in
       let size : length more ≡ length list + 1 = ap length is ∙ length_push list i in
@@ -130,16 +143,33 @@ module _ {start now : RigState} {classes list : List ℕ} {i : ℕ} (so_far : Le
         partition = so_far.partition;
         heads = is ∙ ap (λ (l : List ℕ). l ++ i ∷ []) so_far.heads ∙ sym (heads_below-head classes i single);
         single = λ p from inside'. so_far.single p (omega arith) inside';
-        known = λ other agrees. below_more (λ (p : ℕ). Same other (class_at classes p) p) i (so_far.known other (Agrees-before other reads agrees)) (ap (class_at other) single);
-        apart = λ other agrees a b in_a in_b same.
+        known = λ other possible. below_more (λ (p : ℕ). Same other (class_at classes p) p) i (so_far.known other (IsPossible-before other reads possible))
+            (ap (class_at other) single);
+        apart = λ other possible a b has_a in_a in_b same.
             let P : ℕ → List ℕ → Type 0 = λ p l. Contains l p in
             elim (Contains-push_cases list i a (subst (P a) is in_a)) as (λ _. a ≡ b) [
               | inl old_a ↦ elim (Contains-push_cases list i b (subst (P b) is in_b)) as (λ _. a ≡ b) [
-                | inl old_b ↦ so_far.apart other (Agrees-before other reads agrees) a b old_a old_b same
-                | inr new_b ↦ absurd (apart other agrees (record { left = a; right = i; in_left = old_a; in_right = here i; joined = same ∙ sym (ap (class_at other) new_b) }))
+                | inl old_b ↦ so_far.apart other (IsPossible-before other reads possible) a b has_a old_a old_b same
+                | inr new_b ↦ absurd (apart other possible (record {
+                  left = a;
+                  right = i;
+                  in_left = old_a;
+                  in_right = here i;
+                  judged = has_a;
+                  joined = same
+                      ∙ sym (ap (class_at other) new_b);
+                }))
               ]
               | inr new_a ↦ elim (Contains-push_cases list i b (subst (P b) is in_b)) as (λ _. a ≡ b) [
-                | inl old_b ↦ absurd (apart other agrees (record { left = b; right = i; in_left = old_b; in_right = here i; joined = sym same ∙ sym (ap (class_at other) new_a) }))
+                | inl old_b ↦ absurd (apart other possible (record {
+                  left = b;
+                  right = i;
+                  in_left = old_b;
+                  in_right = here i;
+                  judged = subst
+                      (λ (c : ℕ). c < no_class) same has_a;
+                  joined = sym same ∙ sym (ap (class_at other) new_a);
+                }))
                 | inr new_b ↦ sym new_a ∙ new_b
               ]
             ];
@@ -152,7 +182,8 @@ module _ {start now : RigState} {classes list : List ℕ} {i : ℕ} (so_far : Le
       here p = (0, omega arith, refl)
 
   -- a head is joined with the next point
-  pub Learning-joined : {next : RigState} {merge : List ℕ} {head : ℕ} → i < length classes → Reads now next None → Contains list head → AreOne next head i → now.spent + 1 ≤ next.spent
+  pub Learning-joined : {next : RigState} {merge : List ℕ} {head : ℕ} → i < length classes → Reads now next None → Contains list head → AreOne next head i
+      → now.spent + 1 ≤ next.spent
       → next.spent ≤ now.spent + min 1 (length list) + digits_of (length list - 1) → merge ≡ merged classes head i → Learning start next merge list (i + 1)
   Learning-joined {next} {merge} {head} inside reads in_list joined least most is =
       let P : List ℕ → Type 0 = λ m. Learning start next m list (i + 1) in
@@ -165,26 +196,30 @@ module _ {start now : RigState} {classes list : List ℕ} {i : ℕ} (so_far : Le
           let single = so_far.single i (omega arith) inside in
           let in_head : head < length classes = omega (arith, was.0) in
           let two : head ≢ i = λ same. absurd (omega (arith, was.0, same)) in
-          let stays = merged-stays classes head i so_far.partition in_head inside was.1 single two in
+          let stays = merged-stays classes head i (λ p inside' top. so_far.partition.least p inside') in_head inside was.1 single two in
           let size = length-merged classes head i in
-          let here : class_at (merged classes head i) i ≡ head = merged-moved classes head i so_far.partition in_head inside was.1 single two i inside (omega (arith, was.0, single)) ∙ omega (arith, was.0) in
+          let here : class_at (merged classes head i) i ≡ head = merged-moved classes head i
+          (λ p inside' top. so_far.partition.least p inside') in_head inside was.1 single two i inside (omega (arith, was.0, single))
+          ∙ omega (arith, was.0) in
           record {
             size = size ∙ so_far.size;
             some = omega (arith, size, so_far.some);
             few = omega (arith, size, so_far.few);
             partition = merged-own classes head i in_head inside so_far.partition;
-            heads = so_far.heads ∙ sym (merged-heads_below classes head i so_far.partition in_head inside was.1 single two i (omega arith)) ∙ sym (heads_below-other (merged classes head i) i (λ own. absurd (omega (arith, own, here, was.0))));
+            heads = so_far.heads ∙ sym (merged-heads_below classes head i
+                (λ p inside' top. so_far.partition.least p inside') in_head inside was.1 single two i (omega arith))
+                ∙ sym (heads_below-other (merged classes head i) i (λ own. absurd (omega (arith, own, here, was.0))));
             single = λ p from inside'.
                 let old = so_far.single p (omega arith) (omega (arith, size)) in
                 stays p (omega (arith, size)) (λ top. absurd (omega (arith, top, old, was.0))) ∙ old;
-            known = λ other agrees.
-                let before = so_far.known other (Agrees-before other reads agrees) in
+            known = λ other possible.
+                let before = so_far.known other (IsPossible-before other reads possible) in
                 below_more (λ (p : ℕ). Same other (class_at (merged classes head i) p) p) i
                 (λ p less.
                 let low = so_far.partition.least p (omega arith) in
                 ap (class_at other) (stays p (omega arith) (λ top. absurd (omega (arith, top, low, was.0)))) ∙ before p less)
-                (ap (class_at other) here ∙ joined other agrees);
-            apart = λ other agrees. so_far.apart other (Agrees-before other reads agrees);
+                (ap (class_at other) here ∙ joined other possible);
+            apart = λ other possible. so_far.apart other (IsPossible-before other reads possible);
             reads = Reads-then so_far.reads reads;
             low = omega (arith, so_far.low, least);
             high = omega (arith, so_far.high, most, was.0, few_heads, more_product i (length list) (digits_of (length list - 1)) few_heads);
@@ -196,11 +231,18 @@ module _ {start now : RigState} {classes list : List ℕ} {i : ℕ} (so_far : Le
   -- all points are learnt
   pub Learning-proven : i ≡ length classes → IsProven now classes
   Learning-proven whole =
-      let forces = forced now classes (λ other over agrees p inside. so_far.known other agrees p (omega arith)) in
+      let forces = forced now classes (λ other over agrees p has. so_far.known other (IsPossible-over points_are over agrees) p
+      (let inside = class-inside classes p has in omega arith)) in
       let P : List ℕ → Type 0 = λ l. HeadsApart now l in
       record {
-        partition = record { partition = so_far.partition; points = points_are; some = so_far.some; few = so_far.few };
-        determines = determined now classes so_far.partition forces (subst P (all_heads whole) so_far.apart);
+        partition = record {
+          partition = all-classing classes so_far.partition so_far.few;
+          points = points_are;
+          some =
+              (0, all-class classes so_far.partition so_far.few 0 so_far.some);
+          few = so_far.few;
+        };
+        determines = determined now classes points_are (all-classing classes so_far.partition so_far.few) forces (subst P (all_heads whole) so_far.apart);
       }
 
   pub Learning-at_least : i ≡ length classes → start.spent + length classes ≤ now.spent + length (heads classes)
@@ -210,6 +252,10 @@ module _ {start now : RigState} {classes list : List ℕ} {i : ℕ} (so_far : Le
   Learning-at_most whole =
       let Q : ℕ → ℕ → Type 0 = λ n t. now.spent ≤ start.spent + ((n - 1) + (n - t) * digits_of (t - 1)) in
       subst (Q (length classes)) (ap length (all_heads whole)) (subst (λ (n : ℕ). Q n (length list)) whole (let high = so_far.high in omega (arith, high)))
+
+pub Learning-class : {start now : RigState} {classes list : List ℕ} {i : ℕ} → Learning start now classes list i → (p : ℕ) → p < length classes
+    → HasClass classes p
+Learning-class {start} {now} {classes} so_far p inside = all-class classes so_far.partition so_far.few p inside
 
 -- what holds anyway holds of a refusal
 pub OnErr-any : {T : Type 0} {E : Type 0} (result : Result T E) {P : Type 0} → P → OnErr result P

@@ -1,8 +1,10 @@
 //! A unit whose partition is known.
 
 ghost use Rattle.std.specs.Prelude.{◌≡◌};
+ghost use Rattle.partition.specs.Partitions.{IsPartitionOfAll};
+ghost use Rattle.rig.specs.Seating.{IsSeating};
 ghost use Rattle.rig.specs.States.{IsProven};
-ghost use Rattle.learn.specs.Learned.{IsLearned};
+ghost use Rattle.learn.specs.Learned.{IsLearned, IsLearnedOfAll};
 
 use partition::Partition;
 use rig::{Rig, Seated};
@@ -27,7 +29,9 @@ impl<R: Rig> Learned<R> {
         requires { IsProven (R.state seat) partition }
         ensures seat { result.seat ≡ seat }
         ensures partition { result.partition ≡ partition }
+        ensures seating { IsSeating (R.state result.seat) }
         ensures learned { IsLearned (R.state result.seat) result.partition }
+        ensures of_all { IsPartitionOfAll partition → IsLearnedOfAll (R.state result.seat) result.partition }
     {
         let same_points = partition.points() == seat.points();
         prove!(same_points);

@@ -1,6 +1,6 @@
 use Rattle.std.proofs.Common.{Ok, ◌∙◌, ap, arith}
 use Rattle.rig.proofs.Reading.{Reads-none, Reads-then, Reads-refused, Reads-no_memory}
-use Rattle.learn.proofs.Learnt.{Learning-start, Learning-asks, Learning-stopped, Learning-new, Learning-joined, Learning-proven, Learning-member, OnErr-any}
+use Rattle.learn.proofs.Learnt.{Learning-start, Learning-asks, Learning-stopped, Learning-new, Learning-joined, Learning-proven, Learning-class, Learning-member, OnErr-any}
 use Rattle.learn.proofs.learning.classes_of.Goals as goal
 use Rattle.learn.proofs.learning.classes_of.Goals.{in-Some, in-None+in_ok-push-in-None}
 
@@ -17,29 +17,38 @@ pub returns-in_err-head-clause-reads : goal.returns-in_err-head-clause-reads
 returns-in_err-head-clause-reads g c = Reads-refused c.loop-i.invariant.reads c.in_err-head.ensures.reads _ c.from_residual-in_err-head.ensures.1
 
 pub returns-in_err-head-clause-refused : goal.returns-in_err-head-clause-refused
-returns-in_err-head-clause-refused g c = OnErr-any _ (Learning-stopped c.loop-i.invariant (omega arith) (rw c.as_slice.ensures at c.in_err-head.ensures.at_most))
+returns-in_err-head-clause-refused g c = OnErr-any _ (Learning-stopped c.loop-i.invariant (omega arith)
+    (rw c.as_slice.ensures at c.in_err-head.ensures.at_most))
 
 pub merge-requires-clause-a : goal.merge-requires-clause-a
 merge-requires-clause-a g c =
     let head = rw c.in-Some.is at c.in_ok-head.ensures.head in
-    Learning-member c.loop-i.invariant (omega arith) (rw c.as_slice.ensures at head.0)
+    Learning-class c.loop-i.invariant _ (Learning-member c.loop-i.invariant (omega arith) (rw c.as_slice.ensures at head.0))
+
+pub merge-requires-clause-b : goal.merge-requires-clause-b
+merge-requires-clause-b g c = Learning-class c.loop-i.invariant _ (omega arith)
+
+pub returns-clause-all : goal.returns-clause-all
+returns-clause-all g c = c.loop-i.invariant.partition
 
 pub returns-in_err-push-in-None-clause-reads : goal.returns-in_err-push-in-None-clause-reads
-returns-in_err-push-in-None-clause-reads g c = Reads-no_memory (Reads-then c.loop-i.invariant.reads c.in_ok-head.ensures.reads) _ c.from_residual-in_err-push-in-None.ensures.1
+returns-in_err-push-in-None-clause-reads g c = Reads-no_memory
+    (Reads-then c.loop-i.invariant.reads c.in_ok-head.ensures.reads) _ c.from_residual-in_err-push-in-None.ensures.1
 
 pub returns-in_err-push-in-None-clause-refused : goal.returns-in_err-push-in-None-clause-refused
-returns-in_err-push-in-None-clause-refused g c = OnErr-any _ (Learning-stopped c.loop-i.invariant (omega arith) (rw c.as_slice.ensures at c.in_ok-head.ensures.at_most))
+returns-in_err-push-in-None-clause-refused g c = OnErr-any _ (Learning-stopped c.loop-i.invariant (omega arith)
+    (rw c.as_slice.ensures at c.in_ok-head.ensures.at_most))
 
 pub loop-i-preserved : goal.loop-i-preserved
 loop-i-preserved g c = elim c.match-branch-3.branch [
   | in-Some w ↦
       let head = rw w.in-Some.is at c.in_ok-head.ensures.head in
       rw w.heads-is (Learning-joined c.loop-i.invariant (omega arith) c.in_ok-head.ensures.reads (rw c.as_slice.ensures at head.0) head.1
-      (rw w.in-Some.is at c.in_ok-head.ensures.spent) (rw c.as_slice.ensures at c.in_ok-head.ensures.at_most) (w.classes-is ∙ w.merge.ensures))
+      (rw w.in-Some.is at c.in_ok-head.ensures.spent) (rw c.as_slice.ensures at c.in_ok-head.ensures.at_most) (w.classes-is ∙ w.merge.ensures.merged))
   | in-None+in_ok-push-in-None w ↦
       let apart = c.in_ok-head.ensures.none (ap Ok w.in-None.is) in
-      let at_most = c.in_ok-head.ensures.none_at_most (ap Ok w.in-None.is) in
-      rw w.classes-is (Learning-new c.loop-i.invariant (omega arith) c.in_ok-head.ensures.reads (rw c.as_slice.ensures at apart) (rw c.as_slice.ensures at at_most)
+      let spent = rw c.as_slice.ensures at (c.in_ok-head.ensures.none_spent (ap Ok w.in-None.is)) in
+      rw w.classes-is (Learning-new c.loop-i.invariant (omega arith) c.in_ok-head.ensures.reads (rw c.as_slice.ensures at apart) (omega (arith, spent))
       (w.heads-is ∙ w.in_ok-push-in-None.ensures.ok))
 ]
 
