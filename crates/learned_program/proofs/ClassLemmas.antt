@@ -12,7 +12,7 @@ use Rattle.partition.specs.Heads.{heads}
 use Rattle.partition.specs.NetTable.{IsNetTable, Disjoint}
 use Rattle.partition.specs.NetFaults.{ascending_net}
 use Rattle.partition.proofs.HeadLemmas.{points_below-suc}
-use Rattle.partition.proofs.KeptLemmas.{filter-agree, In-points_below, points_below-In}
+use Rattle.partition.proofs.KeptLemmas.{all_judged, filter-agree, In-points_below, points_below-In}
 use Rattle.partition.proofs.Members.{In, In-filter, In-filter_cases, In-map, In-map_cases, has-In, In-has}
 use Rattle.learned_program.proofs.ListLemmas.{index-In, In-Contains, AllPairs-map, map-kept}
 use Rattle.learned_program.specs.LearnedProgram.{class_points, learned_nets, learned_table}
@@ -111,17 +111,20 @@ module _ (classes : List ℕ) where
   -- the nets of the classes are nets
   pub learned_valid : 0 < length classes → IsNetTable (learned_table classes)
   learned_valid some = record {
-    some_point = some;
+    some_point = let size = ap length (all_judged (length classes)) in let all = length-range_with_len 0 (length classes) in omega arith;
     nonempty = λ i d l. let two = (net_is i d l).two in omega arith;
     ascending = λ i d l. let net = net_is i d l in subst IsStrictlyIncreasing (sym net.points) (class_ascends classes net.class);
     in_range = λ i d l.
         let net = net_is i d l in
-        subst (All (Contains (points_below (length classes)))) (sym net.points)
+        subst (λ (js : List ℕ). All (Contains js) (get_or (learned_nets classes) i d)) (sym (all_judged (length classes)))
+        (subst (All (Contains (points_below (length classes)))) (sym net.points)
         (λ j e k.
         let p = get_or (class_points classes net.class) j e in
         let below = in_class classes net.class p (In-has p (class_points classes net.class) (index-In (class_points classes net.class) j e k)) in
-        In-Contains p (points_below (length classes)) (points_below-In (length classes) p below.0));
+        In-Contains p (points_below (length classes)) (points_below-In (length classes) p below.0)));
     disjoint = AllPairs-filter Disjoint (λ (n : List ℕ). ltb 1 (length n)) (map (class_points classes) (heads classes)) (AllPairs-map Disjoint (class_points classes) (heads classes) heads_apart);
+    ignored_ascending = λ k l. absurd (omega arith);
+    ignored_in_range = λ k d l. absurd (omega arith);
   }
 
   -- they stand as they are listed

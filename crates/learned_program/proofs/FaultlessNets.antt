@@ -1,18 +1,18 @@
--- Nets that are a table have no fault.
+-- Nets that are a table of judged points have no fault.
 use Rattle.std.proofs.Common.{◌≡◌, ℕ, zero, suc, ◌<◌, Bool, true, false, cond, List, [], ◌∷◌, ◌++◌, length, get_or, take, None, refl, sym, ◌∙◌, ap, subst, arith, eqb, ltb, inl, inr}
 use Rattle.std.specs.Prelude.{slice_get}
 use Rattle.std.specs.List.{concat, flat_map}
 use Rattle.std.proofs.lemmas.List.{get_or-take, length-take}
 use Rattle.std.proofs.lemmas.Bool.{ne_eqb, lt-ltb, eq-eqb, or_left, or_right, false_from_ne_true, both_ways}
 use Rattle.partition.specs.Classes.{points_below, has}
-use Rattle.partition.specs.NetTable.{NetTable, IsNetTable}
-use Rattle.partition.specs.NetFaults.{listed, listed_before, point_faults, net_faults, first_fault}
+use Rattle.partition.specs.NetTable.{NetTable, IsNetTable, judged_points}
+use Rattle.partition.specs.NetFaults.{listed, listed_before, point_faults, net_faults, none_judged, first_fault}
 use Rattle.partition.specs.declared.nets.NetsRefusal.{NetsRefusal}
 use Rattle.partition.specs.declared.nets.NetsRefusal.TheVariants.{OutOfRange, Twice, EmptyNet}
 use Rattle.partition.proofs.ClaimLemmas.{has-append_cases}
 use Rattle.partition.proofs.KeptLemmas.{In-points_below}
-use Rattle.partition.proofs.Members.{In, has-In}
-use Rattle.partition.proofs.NetLaws.{In-index, Contains-In}
+use Rattle.partition.proofs.Members.{In, has-In, In-has}
+use Rattle.partition.proofs.NetLaws.{In-index, Contains-In, judged-below}
 use Rattle.partition.proofs.PickedLemmas.{increasing_same}
 
 none_in : {A : Type 0} (f : ℕ → List A) (xs : List ℕ) → ((x : ℕ) → In x xs → f x ≡ []) → flat_map f xs ≡ []
@@ -75,7 +75,15 @@ module _ (t : NetTable) (ok : IsNetTable t) (i : ℕ) (inside : i < length t.nam
       ∙ none_in (point_faults t.points t.named i) (points_below (length net))
       (λ j at.
       let in_net = In-points_below (length net) j at in
-      clean_point j (get_or net j 0) in_net refl (In-points_below t.points (get_or net j 0) (Contains-In (get_or net j 0) (points_below t.points) (ok.in_range i [] inside j 0 in_net))))
+      clean_point j (get_or net j 0) in_net refl (judged-below t (get_or net j 0) (In-has (get_or net j 0) (judged_points t) (Contains-In (get_or net j 0) (judged_points t) (ok.in_range i [] inside j 0 in_net)))))
 
-pub faultless : (t : NetTable) → IsNetTable t → first_fault t.points t.named ≡ None
-faultless t ok = ap (λ (faults : List NetsRefusal). slice_get faults 0) (none_in (net_faults t.points t.named) (points_below (length t.named)) (λ i at. net_clean t ok i (In-points_below (length t.named) i at)))
+-- a matrix with a point has one that is judged where none is ignored
+some_judged : (n : ℕ) → 0 < n → none_judged n [] ≡ []
+some_judged zero some = absurd (omega arith)
+some_judged (suc n) some = refl
+
+pub faultless : (t : NetTable) → IsNetTable t → 0 < t.points → first_fault t.points t.named [] ≡ None
+faultless t ok some =
+    let named : flat_map (net_faults t.points t.named) (points_below (length t.named)) ≡ [] =
+    none_in (net_faults t.points t.named) (points_below (length t.named)) (λ i at. net_clean t ok i (In-points_below (length t.named) i at)) in
+    ap (λ (faults : List NetsRefusal). slice_get (faults ++ none_judged t.points []) 0) named ∙ ap (λ (faults : List NetsRefusal). slice_get faults 0) (some_judged t.points some)

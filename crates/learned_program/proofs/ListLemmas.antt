@@ -1,7 +1,8 @@
 -- Members and pairs of lists.
-use Rattle.std.proofs.Common.{◌≡◌, ℕ, zero, suc, ◌<◌, List, [], ◌∷◌, length, get_or, map, Contains, refl, sym, ◌∙◌, ap, subst, arith, inl, inr}
+use Rattle.std.proofs.Common.{◌≡◌, ℕ, zero, suc, ◌<◌, List, [], ◌∷◌, length, get_or, map, filter, Contains, refl, sym, ◌∙◌, ap, subst, arith, inl, inr}
 use Rattle.std.specs.Prelude.{AllPairs}
 use Rattle.std.proofs.lemmas.List.{get_or-map, length-map}
+use Rattle.partition.specs.Classes.{has}
 use Rattle.partition.proofs.Members.{In}
 use Rattle.partition.proofs.NetLaws.{In-index}
 
@@ -24,3 +25,8 @@ AllPairs-map R f (x ∷ xs) all i j d less l =
 pub map-kept : {X : Type 0} (f : X → X) (xs : List X) → ((x : X) → In x xs → f x ≡ x) → map f xs ≡ xs
 map-kept f [] each = refl
 map-kept f (x ∷ xs) each = ap (λ (y : _). y ∷ map f xs) (each x (inl refl)) ∙ ap (λ (ys : List _). x ∷ ys) (map-kept f xs (λ y i. each y (inr i)))
+
+-- no number is in the empty list
+pub none_listed : (xs : List ℕ) → filter (has []) xs ≡ []
+none_listed [] = refl
+none_listed (x ∷ xs) = none_listed xs

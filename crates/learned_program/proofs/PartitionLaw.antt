@@ -2,13 +2,13 @@
 use Rattle.std.proofs.Common.{◌≡◌, ◌≢◌, ℕ, ◌<◌, true, false, List, [], ◌∷◌, length, get_or, map, refl, sym, ◌∙◌, ap, subst, arith, inl, inr}
 use Rattle.std.proofs.lemmas.Bool.{cases_eq}
 use Rattle.std.proofs.lemmas.List.{get_or_append_left, length-append}
-use Rattle.partition.specs.Classes.{points_below, has, class_at, Same}
+use Rattle.partition.specs.Classes.{points_below, has, class_at, classes_by, Same}
 use Rattle.partition.specs.Partitions.{IsPartitionOfAll}
-use Rattle.partition.specs.NetTable.{IsNetTable, all_nets, net_at, programmed_of}
+use Rattle.partition.specs.NetTable.{IsNetTable, all_nets, judged_points, net_at, programmed_of}
 use Rattle.partition.specs.Claims.{lone_points}
 use Rattle.partition.proofs.ClassLaws.{classes_by-agree, eqb-agree, has-cases, has-points_below, points_below-AllBelow}
 use Rattle.partition.proofs.JoinedPartition.{own-IsPartition}
-use Rattle.partition.proofs.KeptLemmas.{net_at-is, net_at-below}
+use Rattle.partition.proofs.KeptLemmas.{all_judged, net_at-is, net_at-below}
 use Rattle.partition.proofs.Members.{In, In-append_cases, In-map_cases}
 use Rattle.partition.proofs.NetLaws.{In-index, net_facts}
 use Rattle.learned_program.specs.LearnedProgram.{class_points, learned_nets, learned_table}
@@ -33,11 +33,14 @@ module _ (classes : List ℕ) (partition : IsPartitionOfAll classes) (some : 0 <
   valid : IsNetTable (learned_table classes)
   valid = learned_valid classes some
 
+  judged : (p : ℕ) → p < length classes → has (judged_points (learned_table classes)) p ≡ true
+  judged p below = ap (λ (js : List ℕ). has js p) (all_judged (length classes)) ∙ has-points_below (length classes) p below
+
   -- a point of a class of two points or more has the number of that class as a net
   in_net : (k p : ℕ) → k < length (learned_nets classes) → p < length classes → has (get_or (learned_nets classes) k []) p ≡ true → net_at (learned_table classes) p ≡ k
   in_net k p inside below held =
       let alone = map (λ (x : ℕ). x ∷ []) (lone_points (learned_table classes)) in
-      net_at-is (learned_table classes) valid p k below (omega (arith, length-append (learned_nets classes) alone))
+      net_at-is (learned_table classes) valid p k (judged p below) (omega (arith, length-append (learned_nets classes) alone))
       (subst (λ (net : List ℕ). has net p ≡ true) (sym (get_or_append_left (learned_nets classes) alone [] k inside)) held)
 
   one_class : (p q : ℕ) → p < length classes → q < length classes → Same classes p q → net_at (learned_table classes) p ≡ net_at (learned_table classes) q
@@ -70,15 +73,16 @@ module _ (classes : List ℕ) (partition : IsPartitionOfAll classes) (some : 0 <
   one_net : (p q : ℕ) → p < length classes → q < length classes → net_at (learned_table classes) p ≡ net_at (learned_table classes) q → Same classes p q
   one_net p q below also same =
       let facts = net_facts (learned_table classes) valid in
-      let has_p = facts.has_at p (has-points_below (length classes) p below) in
-      let has_q = facts.has_at q (has-points_below (length classes) q also) in
+      let has_p = facts.has_at p (judged p below) in
+      let has_q = facts.has_at q (judged q also) in
       let i = net_at (learned_table classes) p in
-      in_one p q (get_or (all_nets (learned_table classes)) i []) (index-In (all_nets (learned_table classes)) i [] (net_at-below (learned_table classes) valid p below))
+      in_one p q (get_or (all_nets (learned_table classes)) i []) (index-In (all_nets (learned_table classes)) i [] (net_at-below (learned_table classes) valid p (judged p below)))
       has_p (subst (λ (k : ℕ). has (get_or (all_nets (learned_table classes)) k []) q ≡ true) (sym same) has_q)
 
 pub learned_classes : (classes : List ℕ) → IsPartitionOfAll classes → programmed_of (learned_table classes) ≡ classes
 learned_classes classes partition =
-    classes_by-agree (points_below (length classes)) (length classes) (net_at (learned_table classes)) (class_at classes)
+    ap (λ (js : List ℕ). classes_by js (length classes) (net_at (learned_table classes))) (all_judged (length classes))
+    ∙ classes_by-agree (points_below (length classes)) (length classes) (net_at (learned_table classes)) (class_at classes)
     (λ p q at_p at_q.
     let below = points_below-AllBelow (length classes) p at_p in
     let also = points_below-AllBelow (length classes) q at_q in

@@ -9,6 +9,7 @@ use Rattle.partition.specs.Heads.{heads}
 use Rattle.partition.specs.Names.{IsName}
 use Rattle.partition.proofs.HeadLemmas.{heads_le}
 use Rattle.wirelist.specs.Programs.{IsProgram}
+use Rattle.wirelist.specs.Ranges.{most_points}
 use Rattle.learned_program.specs.LearnedProgram.{class_points, learned_nets, learned_name, learned_names, learned_program}
 use Rattle.learned_program.proofs.ClassLemmas.{learned_valid}
 use Rattle.learned_program.proofs.NameLemmas.{learned_is_name, learned_name-injective}
@@ -20,7 +21,7 @@ nets_few classes =
     let big = λ (net : List ℕ). ltb 1 (length net) in
     omega (arith, length-filter big all, count_by-le-length big all, length-map (heads classes) (class_points classes), heads_le classes)
 
-module _ (k : ℕ) (few : k ≤ 1024) where
+module _ (k : ℕ) (few : k ≤ most_points) where
   abbrev names : List (List ℕ)
   names = map learned_name (range_with_len 1 k)
 
@@ -38,10 +39,10 @@ module _ (k : ℕ) (few : k ≤ 1024) where
       let numbers = learned_name-injective (1 + i) (1 + j) (omega (arith, size)) (omega (arith, size)) (sym (name_at i d (omega arith)) ∙ same ∙ name_at j d l) in
       omega arith
 
-pub learned_is_program : (classes : List ℕ) → 0 < length classes → length classes ≤ 1024 → IsProgram (learned_program classes)
+pub learned_is_program : (classes : List ℕ) → 0 < length classes → length classes ≤ most_points → IsProgram (learned_program classes)
 learned_is_program classes some most =
     let k = length (learned_nets classes) in
-    let few : k ≤ 1024 = omega (arith, nets_few classes) in
+    let few : k ≤ most_points = omega (arith, nets_few classes) in
     record {
       part = refl;
       revision = (omega arith, omega arith);

@@ -27,9 +27,9 @@ learned_name number = codes "N" ++ decimal number
 abbrev pub learned_names : List (List ℕ) → List (List ℕ)
 learned_names nets = map learned_name (range_with_len 1 (length nets))
 
--- each other point is a net of its own
+-- each other point is a net of its own; all points are judged
 abbrev pub learned_table : List ℕ → NetTable
-learned_table classes = record { points = length classes; named = learned_nets classes }
+learned_table classes = record { points = length classes; named = learned_nets classes; ignored = [] }
 
 -- no component, no test at high voltage
 abbrev pub learned_program : List ℕ → Program

@@ -31,13 +31,16 @@ fn the_text_is_a_wirelist(rt: HostRuntime) -> Result<(), Fail> {
     let mut classes = Partition::singles(rt.alloc(), 5)?;
     assert_eq!(rt; classes.points(), 5);
     let text = text_of(rt.alloc(), &classes)?;
-    assert_eq!(rt; text.as_str(), "part,LEARNED,1\npoints,5\nattempts,3\n");
+    assert_eq!(rt;
+        text.as_slice(),
+        b"part,LEARNED,1\npoints,5\nattempts,3\n".as_slice()
+    );
     classes.merge(Point(0), Point(1));
     classes.merge(Point(3), Point(2));
     let text = text_of(rt.alloc(), &classes)?;
     assert_eq!(rt;
-        text.as_str(),
-        "part,LEARNED,1\npoints,5\nnet,N1,0,1\nnet,N2,2,3\nattempts,3\n"
+        text.as_slice(),
+        b"part,LEARNED,1\npoints,5\nnet,N1,0,1\nnet,N2,2,3\nattempts,3\n".as_slice()
     );
     Ok(())
 }

@@ -1,14 +1,12 @@
 -- Fields of at most 24 letters, digits, dashes and low lines, and rows of two such fields or more.
-use Rattle.std.proofs.Common.{◌≡◌, ℕ, ◌+◌, ◌%◌, ◌^◌, ◌<◌, ◌≤◌, ◌&&◌, true, List, [], ◌∷◌, ◌++◌, length, Contains, refl, ◌∙◌, arith}
+use Rattle.std.proofs.Common.{◌≡◌, ℕ, ◌+◌, ◌%◌, ◌^◌, ◌<◌, ◌≤◌, ◌&&◌, true, List, [], ◌∷◌, ◌++◌, length, refl, ◌∙◌, arith}
 use Rattle.std.specs.List.{AllByRecursion, list_all}
 use Rattle.std.specs.Fmt.{decimal}
 use Rattle.std.specs.Char.{is_ascii_alphanumeric}
 use Rattle.std.proofs.lemmas.Fmt.{decimal_by_steps, length-decimal-le}
-use Rattle.std.proofs.lemmas.List.FromFn.{length-range_with_len, get_or-range_with_len}
 use Rattle.std.proofs.lemmas.List.Folds.{list_all-append}
 use Rattle.std.proofs.lemmas.Bool.Decides.{nat_tests}
 use Rattle.std.specs.Prelude.{nat_le}
-use Rattle.partition.specs.Classes.{points_below}
 use Rattle.partition.specs.Names.{IsName, is_name_byte}
 use Rattle.partition.proofs.Labels.{and_left, and_right}
 
@@ -25,13 +23,6 @@ pub record IsPlainRow (row : List (List ℕ)) : Type 0 where
 pub all_append : {X : Type 0} (P : X → Type 0) (xs ys : List X) → AllByRecursion P xs → AllByRecursion P ys → AllByRecursion P (xs ++ ys)
 all_append P [] ys a b = b
 all_append P (x ∷ xs) ys a b = (a.0, all_append P xs ys a.1 b)
-
--- a point of the points below n is below n
-pub contains_below : (n x : ℕ) → Contains (points_below n) x → x < n
-contains_below n x h =
-    let i = h.0 in
-    let inside : i < n = omega (arith, h.1, length-range_with_len 0 n) in
-    omega (arith, h.2, get_or-range_with_len 0 n i x inside)
 
 -- a name is a plain field
 le_from : (a b : ℕ) → nat_le a b ≡ true → a ≤ b

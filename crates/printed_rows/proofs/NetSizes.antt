@@ -1,5 +1,5 @@
--- Nets that share no point have in all no more points than the matrix.
-use Rattle.std.proofs.Common.{◌≡◌, ◌==◌, ℕ, suc, ◌<◌, ◌≤◌, Bool, true, false, ◌||◌, List, [], ◌∷◌, ◌++◌, length, get_or, length-append, All, AllPairs, refl, sym, ◌∙◌, arith, inl, inr, nat_eq}
+-- Nets that share no point, and the ignored points, have in all no more points than the matrix.
+use Rattle.std.proofs.Common.{◌≡◌, ◌==◌, ℕ, suc, ◌+◌, ◌<◌, ◌≤◌, Bool, true, false, ◌||◌, List, [], ◌∷◌, ◌++◌, length, get_or, length-append, All, AllPairs, Contains, refl, sym, ◌∙◌, subst, arith, inl, inr, nat_eq}
 use Rattle.std.specs.List.{AllByRecursion, IsDistinct, flat_map, list_any}
 use Rattle.std.specs.List.Sorted.{IsStrictlyIncreasing}
 use Rattle.std.proofs.lemmas.Bool.{cases_Bool, eqb-true, ne_eqb}
@@ -8,11 +8,12 @@ use Rattle.std.proofs.lemmas.List.Folds.{list_any-append}
 use Rattle.std.proofs.lemmas.Map.Keys.{IsDistinct-head, IsDistinct-tail, IsDistinct-cons, IsDistinct-from_apart, sorted_from_strictly_increasing, below_from_sorted}
 use Rattle.std.proofs.lemmas.Map.Steps.{length-le_from_distinct_below}
 use Rattle.partition.specs.Classes.{has}
-use Rattle.partition.specs.NetTable.{NetTable, IsNetTable, Disjoint}
+use Rattle.partition.specs.NetTable.{NetTable, IsNetTable, Disjoint, judged_points}
 use Rattle.partition.proofs.ClassLaws.{has-head, has-tail}
-use Rattle.partition.proofs.Members.{has-In}
-use Rattle.partition.proofs.NetLaws.{All-In}
-use Rattle.printed_rows.proofs.Fields.{all_append, contains_below}
+use Rattle.partition.proofs.Labels.{not_true}
+use Rattle.partition.proofs.Members.{has-In, In-has}
+use Rattle.partition.proofs.NetLaws.{All-In, Contains-In, judged-below, judged-is}
+use Rattle.printed_rows.proofs.Fields.{all_append}
 
 -- the points of all nets
 abbrev pub all_points : List (List ℕ) → List ℕ
@@ -68,31 +69,57 @@ distinct_nets (net ∷ nets) up apart =
     (distinct_nets nets up.1 (λ i j d l m. apart (suc i) (suc j) d (omega arith) (omega arith)))
     (λ p h. in_no_net nets p (in_no_other net nets p others h))
 
--- a point of all points is below the number of points
-points_inside : (n : ℕ) (nets : List (List ℕ)) → AllByRecursion (λ net. AllByRecursion (λ x. x < n) net) nets → AllByRecursion (λ x. x < n) (all_points nets)
-points_inside n [] h = tt
-points_inside n (net ∷ nets) h = all_append (λ x. x < n) net (all_points nets) h.0 (points_inside n nets h.1)
+-- what holds of each point of each net holds of all points
+points_all : (P : ℕ → Type 0) (nets : List (List ℕ)) → AllByRecursion (λ net. AllByRecursion P net) nets → AllByRecursion P (all_points nets)
+points_all P [] h = tt
+points_all P (net ∷ nets) h = all_append P net (all_points nets) h.0 (points_all P nets h.1)
 
-found_inside : (n q : ℕ) (xs : List ℕ) → AllByRecursion (λ x. x < n) xs → list_any (nat_eq q) xs ≡ true → q < n
-found_inside n q [] h i = cc
-found_inside n q (x ∷ xs) h i = elim (cases_Bool (nat_eq q x)) [
-  | inl same ↦ let e = eqb-true q x same in let below = h.0 in omega arith
-  | inr other ↦ found_inside n q xs h.1 (rw other at i)
+found_all : (P : ℕ → Type 0) (q : ℕ) (xs : List ℕ) → AllByRecursion P xs → list_any (nat_eq q) xs ≡ true → P q
+found_all P q [] h i = cc
+found_all P q (x ∷ xs) h i = elim (cases_Bool (nat_eq q x)) as (λ _. P q) [
+  | inl same ↦ subst P (sym (eqb-true q x same)) h.0
+  | inr other ↦ found_all P q xs h.1 (rw other at i)
 ]
 
--- the nets of a table have in all no more points than the matrix
-pub points_few : (t : NetTable) → IsNetTable t → length (all_points t.named) ≤ t.points
-points_few t ok =
-    let inside : All (λ net. All (λ x. x < t.points) net) t.named = λ k d h j e l. contains_below t.points (get_or (get_or t.named k d) j e) (ok.in_range k d h j e l) in
-    let each = by_recursion (λ net. AllByRecursion (λ x. x < t.points) net) t.named (λ k d h. by_recursion (λ x. x < t.points) (get_or t.named k d) (inside k d h)) in
-    length-le_from_distinct_below (all_points t.named) t.points
-    (distinct_nets t.named (by_recursion IsStrictlyIncreasing t.named ok.ascending) ok.disjoint)
-    (λ q i. found_inside t.points q (all_points t.named) (points_inside t.points t.named each) i)
+has_all : (P : ℕ → Type 0) (q : ℕ) (xs : List ℕ) → AllByRecursion P xs → has xs q ≡ true → P q
+has_all P q [] h i = cc
+has_all P q (x ∷ xs) h i = elim (cases_Bool (x == q)) as (λ _. P q) [
+  | inl same ↦ subst P (eqb-true x q same) h.0
+  | inr other ↦ has_all P q xs h.1 (rw other at i)
+]
+
+-- a judged point is a point, and is not ignored
+pub judged_below : (t : NetTable) (p : ℕ) → Contains (judged_points t) p → p < t.points
+judged_below t p c = judged-below t p (In-has p (judged_points t) (Contains-In p (judged_points t) c))
+
+judged_other : (t : NetTable) (p : ℕ) → Contains (judged_points t) p → has t.ignored p ≡ false
+judged_other t p c = not_true (has t.ignored p) (sym (judged-is t p (judged_below t p c)) ∙ In-has p (judged_points t) (Contains-In p (judged_points t) c))
+
+module _ (t : NetTable) (ok : IsNetTable t) where
+  -- what holds of the judged points holds of the points of all nets
+  of_nets : (P : ℕ → Type 0) → ((p : ℕ) → Contains (judged_points t) p → P p) → AllByRecursion P (all_points t.named)
+  of_nets P each =
+      points_all P t.named
+      (by_recursion (λ net. AllByRecursion P net) t.named (λ k d h. by_recursion P (get_or t.named k d) (λ j e l. each (get_or (get_or t.named k d) j e) (ok.in_range k d h j e l))))
+
+  apart : (p : ℕ) → has (all_points t.named) p ≡ true → has t.ignored p ≡ false
+  apart p h = has_all (λ q. has t.ignored q ≡ false) p (all_points t.named) (of_nets (λ q. has t.ignored q ≡ false) (judged_other t)) h
+
+  distinct : IsDistinct nat_eq (all_points t.named ++ t.ignored)
+  distinct =
+      distinct_append (all_points t.named) t.ignored (distinct_nets t.named (by_recursion IsStrictlyIncreasing t.named ok.ascending) ok.disjoint) (distinct_net t.ignored ok.ignored_ascending) apart
+
+  -- the nets of a table and the ignored points have in all no more points than the matrix
+  pub points_few : length (all_points t.named) + length t.ignored ≤ t.points
+  points_few =
+      let inside = all_append (λ x. x < t.points) (all_points t.named) t.ignored (of_nets (λ x. x < t.points) (judged_below t)) (by_recursion (λ x. x < t.points) t.ignored ok.ignored_in_range) in
+      let few = length-le_from_distinct_below (all_points t.named ++ t.ignored) t.points distinct (λ q i. found_all (λ x. x < t.points) q (all_points t.named ++ t.ignored) inside i) in
+      omega (arith, length-append (all_points t.named) t.ignored)
 
 some_each : (nets : List (List ℕ)) → AllByRecursion (λ net. 0 < length net) nets → length nets ≤ length (all_points nets)
 some_each [] h = omega arith
 some_each (net ∷ nets) h = let some = h.0 in let rest = some_each nets h.1 in omega (arith, length-append net (all_points nets))
 
--- and there are no more nets than points
-pub nets_few : (t : NetTable) → IsNetTable t → length t.named ≤ t.points
-nets_few t ok = let few = points_few t ok in let some = some_each t.named (by_recursion (λ net. 0 < length net) t.named ok.nonempty) in omega arith
+-- a table has no more nets than these have points
+pub nets_few : (t : NetTable) → IsNetTable t → length t.named ≤ length (all_points t.named)
+nets_few t ok = some_each t.named (by_recursion (λ net. 0 < length net) t.named ok.nonempty)

@@ -4,14 +4,17 @@ use Rattle.std.specs.List.{AllByRecursion, zip}
 use Rattle.std.specs.Fmt.{decimal}
 use Rattle.partition.specs.Names.{IsName}
 use Rattle.partition.specs.NetTable.{NetTable, IsNetTable}
-use Rattle.wirelist.specs.Canonical.{rows_of, part_row, points_row, net_row, resistor_row, diode_row, insulation_rows, withstand_rows, attempts_row}
+use Rattle.wirelist.specs.Canonical.{rows_of, part_row, points_row, net_row, ignore_rows, resistor_row, diode_row, insulation_rows, withstand_rows, attempts_row}
+use Rattle.partition.proofs.NetLaws.{judged-below}
+use Rattle.wirelist.specs.Clusters.{IsJudged, ResistorsInside, DiodesInside}
 use Rattle.wirelist.specs.Programs.{IsProgram, IsResistor, IsDiode, IsInsulation, IsWithstand}
 use Rattle.wirelist.specs.declared.program.Program.{Program}
 use Rattle.wirelist.specs.declared.program.Insulation.{Insulation}
 use Rattle.wirelist.specs.declared.program.Withstand.{Withstand}
 use Rattle.wirelist.specs.declared.parts.Resistor.{Resistor}
 use Rattle.wirelist.specs.declared.parts.Diode.{Diode}
-use Rattle.printed_rows.proofs.Fields.{IsPlainField, IsPlainRow, all_append, name_field, decimal_field, contains_below}
+use Rattle.printed_rows.proofs.Fields.{IsPlainField, IsPlainRow, all_append, name_field, decimal_field}
+use Rattle.printed_rows.proofs.NetSizes.{judged_below}
 
 all_tail : {X : Type 0} (P : X → Type 0) (x : X) (xs : List X) → All P (x ∷ xs) → All P xs
 all_tail P x xs h k d l = h (suc k) d (omega arith)
@@ -35,21 +38,27 @@ nets_plain (name ∷ names) (net ∷ nets) n p = (
   nets_plain names nets (all_tail IsName name names n) (all_tail (λ ps. All (λ q. q < 2 ^ 64) ps) net nets p),
 )
 
--- the points of a net are below 2^64
-nets_below : (t : NetTable) → IsNetTable t → t.points ≤ 1024 → All (λ net. All (λ q. q < 2 ^ 64) net) t.named
-nets_below t ok few k d h j e l = let below = contains_below t.points (get_or (get_or t.named k d) j e) (ok.in_range k d h j e l) in omega arith
+-- the points of a net are below 2^64, and so are those that are not judged
+nets_below : (t : NetTable) → IsNetTable t → t.points ≤ 4096 → All (λ net. All (λ q. q < 2 ^ 64) net) t.named
+nets_below t ok few k d h j e l = let below = judged_below t (get_or (get_or t.named k d) j e) (ok.in_range k d h j e l) in omega arith
+
+ignored_below : (t : NetTable) → IsNetTable t → t.points ≤ 4096 → All (λ q. q < 2 ^ 64) t.ignored
+ignored_below t ok few k d h = let below = ok.ignored_in_range k d h in omega arith
+
+ignored_plain : (ps : List ℕ) → All (λ q. q < 2 ^ 64) ps → AllByRecursion IsPlainRow (ignore_rows ps)
+ignored_plain [] h = tt
+ignored_plain (p ∷ ps) h = (record { many = omega arith; fields = (record { plain = refl; short = omega arith }, points_fields (p ∷ ps) h) }, tt)
 
 -- the rows of a program, kind by kind
-resistors_plain : (points : ℕ) (rs : List Resistor) → points ≤ 1024 → All IsResistor rs → All (λ (r : Resistor). (r.a < points) × (r.b < points)) rs
-    → AllByRecursion IsPlainRow (map resistor_row rs)
-resistors_plain points [] few all inside = tt
-resistors_plain points (r ∷ rs) few all inside =
+resistors_plain : (t : NetTable) (rs : List Resistor) → t.points ≤ 4096 → All IsResistor rs → ResistorsInside t rs → AllByRecursion IsPlainRow (map resistor_row rs)
+resistors_plain t [] few all inside = tt
+resistors_plain t (r ∷ rs) few all inside =
     let ends = inside 0 r (omega arith) in
     let own = all 0 r (omega arith) in
     let window = own.window in
     let high = own.high in
-    let a = ends.0 in
-    let b = ends.1 in (
+    let a = judged-below t r.a ends.0 in
+    let b = judged-below t r.b ends.1 in (
       record {
         many = omega arith;
         fields = (
@@ -60,19 +69,18 @@ resistors_plain points (r ∷ rs) few all inside =
           ),
         );
       },
-      resistors_plain points rs few (all_tail IsResistor r rs all) (all_tail (λ (x : Resistor). (x.a < points) × (x.b < points)) r rs inside),
+      resistors_plain t rs few (all_tail IsResistor r rs all) (all_tail (λ (x : Resistor). IsJudged t x.a × IsJudged t x.b) r rs inside),
     )
 
-diodes_plain : (points : ℕ) (ds : List Diode) → points ≤ 1024 → All IsDiode ds → All (λ (x : Diode). (x.from < points) × (x.to < points)) ds
-    → AllByRecursion IsPlainRow (map diode_row ds)
-diodes_plain points [] few all inside = tt
-diodes_plain points (x ∷ xs) few all inside =
+diodes_plain : (t : NetTable) (ds : List Diode) → t.points ≤ 4096 → All IsDiode ds → DiodesInside t ds → AllByRecursion IsPlainRow (map diode_row ds)
+diodes_plain t [] few all inside = tt
+diodes_plain t (x ∷ xs) few all inside =
     let ends = inside 0 x (omega arith) in
     let own = all 0 x (omega arith) in
     let window = own.window in
     let high = own.high in
-    let a = ends.0 in
-    let b = ends.1 in (
+    let a = judged-below t x.from ends.0 in
+    let b = judged-below t x.to ends.1 in (
       record {
         many = omega arith;
         fields = (
@@ -83,7 +91,7 @@ diodes_plain points (x ∷ xs) few all inside =
           ),
         );
       },
-      diodes_plain points xs few (all_tail IsDiode x xs all) (all_tail (λ (y : Diode). (y.from < points) × (y.to < points)) x xs inside),
+      diodes_plain t xs few (all_tail IsDiode x xs all) (all_tail (λ (y : Diode). IsJudged t y.from × IsJudged t y.to) x xs inside),
     )
 
 insulation_plain : (o : Option Insulation) → IfSome o IsInsulation → AllByRecursion IsPlainRow (insulation_rows o)
@@ -124,7 +132,7 @@ head_plain part revision name few = record {
   fields = (record { plain = refl; short = omega arith }, (name_field part name, (decimal_field revision (omega arith), tt)));
 }
 
-points_plain : (points : ℕ) → points ≤ 1024 → IsPlainRow (points_row points)
+points_plain : (points : ℕ) → points ≤ 4096 → IsPlainRow (points_row points)
 points_plain points few = record {
   many = omega arith;
   fields = (record { plain = refl; short = omega arith }, (decimal_field points (omega arith), tt));
@@ -145,9 +153,10 @@ rows_plain p ok =
       (
         points_plain p.nets.points few,
         all_append IsPlainRow _ _ (nets_plain p.names p.nets.named ok.names (nets_below p.nets ok.nets few))
-            (all_append IsPlainRow _ _ (resistors_plain p.nets.points p.resistors few parts.resistors parts.inside.resistors_in)
-            (all_append IsPlainRow _ _ (diodes_plain p.nets.points p.diodes few parts.diodes parts.inside.diodes_in)
+            (all_append IsPlainRow _ _ (ignored_plain p.nets.ignored (ignored_below p.nets ok.nets few))
+            (all_append IsPlainRow _ _ (resistors_plain p.nets p.resistors few parts.resistors parts.inside.resistors_in)
+            (all_append IsPlainRow _ _ (diodes_plain p.nets p.diodes few parts.diodes parts.inside.diodes_in)
             (all_append IsPlainRow _ _ (insulation_plain p.insulation ok.insulation)
-            (all_append IsPlainRow _ _ (withstand_plain p.withstand ok.withstand) (attempts_plain p.attempts ok.attempts.1, tt))))),
+            (all_append IsPlainRow _ _ (withstand_plain p.withstand ok.withstand) (attempts_plain p.attempts ok.attempts.1, tt)))))),
       ),
     )

@@ -1,3 +1,4 @@
 pub mod ClusterLemmas
+pub mod ClusterLaw
 pub mod PrintingLemmas
 pub mod EqualLemmas

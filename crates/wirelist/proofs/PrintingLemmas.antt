@@ -1,11 +1,11 @@
 -- Lines of rows, printed one after another.
-use Rattle.std.proofs.Common.{◌≡◌, ℕ, ◌+◌, ◌<◌, List, [], ◌∷◌, ◌++◌, length, map, take, get_or, codes, refl, ap, sym, ◌∙◌, append_assoc}
+use Rattle.std.proofs.Common.{◌≡◌, ℕ, ◌+◌, ◌<◌, List, [], ◌∷◌, ◌++◌, length, map, take, get_or, codes, refl, ap, sym, ◌∙◌, append_assoc, arith}
 use Rattle.std.specs.List.{flat_map, join_with_byte, zip}
 use Rattle.std.specs.Fmt.{decimal}
 use Rattle.std.proofs.lemmas.List.{take_more, append-nil, map-append}
 use Rattle.std.proofs.lemmas.Grind.{flat_map-append}
 use Rattle.std.proofs.lemmas.Slice.Zip.{get_or-zip}
-use Rattle.wirelist.specs.Canonical.{line_of, net_row}
+use Rattle.wirelist.specs.Canonical.{line_of, net_row, ignore_row, ignore_rows}
 
 -- a row of two fields or more is its first field and the others, each after a comma
 pub join_all : (x : List ℕ) (ys : List (List ℕ)) → join_with_byte 44 (x ∷ ys) ≡ x ++ flat_map (λ y. 44 ∷ y) ys
@@ -29,6 +29,21 @@ net_line text name ps =
     ∙ ap (λ rest. rest ++ (10 ∷ [])) (ap (λ rest. name ++ rest) (sym (fields_all ps)) ∙ sym (join_all name (map decimal ps)))
     )
 
+-- the line of the points that are not judged, printed field by field
+pub ignore_line : (text ps : List ℕ) → ((text ++ codes "ignore") ++ flat_map (λ p. 44 ∷ decimal p) ps) ++ (10 ∷ []) ≡ text ++ line_of (ignore_row ps)
+ignore_line text ps =
+    append_assoc (text ++ codes "ignore") (flat_map (λ p. 44 ∷ decimal p) ps) (10 ∷ [])
+    ∙ append_assoc text (codes "ignore") (flat_map (λ p. 44 ∷ decimal p) ps ++ (10 ∷ []))
+    ∙ ap (λ rest. text ++ rest) (
+    sym (append_assoc (codes "ignore") (flat_map (λ p. 44 ∷ decimal p) ps) (10 ∷ []))
+    ∙ ap (λ rest. rest ++ (10 ∷ [])) (ap (λ rest. codes "ignore" ++ rest) (sym (fields_all ps)) ∙ sym (join_all (codes "ignore") (map decimal ps)))
+    )
+
+-- points that are there have a row
+pub ignore_row_is : (ps : List ℕ) → 0 < length ps → flat_map line_of (ignore_rows ps) ≡ line_of (ignore_row ps)
+ignore_row_is [] some = absurd (omega arith)
+ignore_row_is (p ∷ ps) some = append-nil (line_of (ignore_row (p ∷ ps)))
+
 -- one line more
 pub lines_more : {A B : Type 0} (line : B → List ℕ) (row : A → B) (xs : List A) (i : ℕ) (x : A) → i < length xs → get_or xs i x ≡ x
     → flat_map line (map row (take (i + 1) xs)) ≡ flat_map line (map row (take i xs)) ++ line (row x)
@@ -44,7 +59,7 @@ pub pair_at : {A B : Type 0} (xs : List A) (ys : List B) (i : ℕ) (x : A) (y : 
 pair_at xs ys i x y h k e f = get_or-zip xs ys i (x, y) h k ∙ ap (λ a. (a, get_or ys i y)) e ∙ ap (λ b. (x, b)) f
 
 -- lists of lines in their order
-pub lines_in_order : {R : Type 0} (line : R → List ℕ) (first second last : R) (a b c d e : List R)
-    → ((((((line first ++ line second) ++ flat_map line a) ++ flat_map line b) ++ flat_map line c) ++ flat_map line d) ++ flat_map line e) ++ line last
-    ≡ flat_map line (first ∷ second ∷ (a ++ (b ++ (c ++ (d ++ (e ++ (last ∷ [])))))))
-lines_in_order line first second last a b c d e = simp (append_assoc, flat_map-append, append-nil)
+pub lines_in_order : {R : Type 0} (line : R → List ℕ) (first second last : R) (a b c d e f : List R)
+    → (((((((line first ++ line second) ++ flat_map line a) ++ flat_map line b) ++ flat_map line c) ++ flat_map line d) ++ flat_map line e) ++ flat_map line f) ++ line last
+    ≡ flat_map line (first ∷ second ∷ (a ++ (b ++ (c ++ (d ++ (e ++ (f ++ (last ∷ []))))))))
+lines_in_order line first second last a b c d e f = simp (append_assoc, flat_map-append, append-nil)

@@ -23,6 +23,10 @@ points_row points = codes "points" ∷ decimal points ∷ []
 abbrev pub net_row : List ℕ × List ℕ → List (List ℕ)
 net_row net = codes "net" ∷ net.0 ∷ map decimal net.1
 
+-- `ignore,P,P`
+abbrev pub ignore_row : List ℕ → List (List ℕ)
+ignore_row points = codes "ignore" ∷ map decimal points
+
 -- `resistor,NAME,A,B,MIN,MAX`
 abbrev pub resistor_row : Resistor → List (List ℕ)
 resistor_row r = codes "resistor" ∷ r.name ∷ decimal r.a ∷ decimal r.b ∷ decimal r.min ∷ decimal r.max ∷ []
@@ -44,6 +48,10 @@ abbrev pub attempts_row : ℕ → List (List ℕ)
 attempts_row attempts = codes "attempts" ∷ decimal attempts ∷ []
 
 -- a row where there is something, and none else
+abbrev pub ignore_rows : List ℕ → List (List (List ℕ))
+ignore_rows [] = []
+ignore_rows (p ∷ ps) = ignore_row (p ∷ ps) ∷ []
+
 abbrev pub insulation_rows : Option Insulation → List (List (List ℕ))
 insulation_rows None = []
 insulation_rows (Some i) = insulation_row i ∷ []
@@ -57,11 +65,12 @@ abbrev pub rows_of : Program → List (List (List ℕ))
 rows_of p =
     part_row p.part p.revision ∷ points_row p.nets.points
     ∷ (map net_row (zip p.names p.nets.named)
+    ++ (ignore_rows p.nets.ignored
     ++ (map resistor_row p.resistors
     ++ (map diode_row p.diodes
     ++ (insulation_rows p.insulation
     ++ (withstand_rows p.withstand
-    ++ (attempts_row p.attempts ∷ []))))))
+    ++ (attempts_row p.attempts ∷ [])))))))
 
 -- a row's line: its fields with commas between, and an LF
 abbrev pub line_of : List (List ℕ) → List ℕ

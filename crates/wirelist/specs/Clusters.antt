@@ -1,15 +1,15 @@
--- The clusters of a program: the classes of nets under 'a programmed component lies between them'.
+-- The clusters of a program: the classes of nets under 'a programmed component lies between them'. A point that is not judged is in no net and no cluster.
 --     component_links p        for each component the numbers of the nets of its ends
 --     cluster_firsts p         the first net of each cluster, in order
 --     cluster_count p          how many clusters there are
 --     clusters_of p            the points of each cluster, ascending, in order of first net
---     cluster_classes p        the points' partition by cluster
+--     cluster_classes p        the points' partition by cluster; 65,535 stands at a point that is not judged
 --     side p j set             the points of the clusters whose number has 1 (or 0) as binary digit j
 --     others p cluster         the judged points that are not in the group
-use Rattle.std.specs.Prelude.{ℕ, ◌<◌, ◌==◌, Bool, not, List, ◌++◌, map, filter, fold, length, All}
+use Rattle.std.specs.Prelude.{ℕ, ◌==◌, Bool, IsTrue, not, List, ◌++◌, map, filter, length, All}
 use Rattle.std.specs.List.{enumerate_from}
 use Rattle.std.specs.Bool.{beq}
-use Rattle.partition.specs.Classes.{points_below, has, class_at, classes_by, joined_by, merged}
+use Rattle.partition.specs.Classes.{points_below, has, class_at, classes_by, joined_by}
 use Rattle.partition.specs.NetTable.{NetTable, judged_points, net_at, net_count}
 use Rattle.partition.specs.Digits.{bit_of}
 use Rattle.wirelist.specs.declared.program.Program.{Program}
@@ -26,10 +26,6 @@ diode_link t d = (net_at t d.from, net_at t d.to)
 -- for each component the numbers of the nets of its ends
 abbrev pub component_links : Program → List (ℕ × ℕ)
 component_links p = map (resistor_link p.nets) p.resistors ++ map (diode_link p.nets) p.diodes
-
--- the classes after further links
-abbrev pub linked_by : List ℕ → List (ℕ × ℕ) → List ℕ
-linked_by classes links = fold (λ found link. merged found link.0 link.1) classes links
 
 -- for each net the first net of its cluster
 abbrev pub net_clusters : Program → List ℕ
@@ -67,17 +63,17 @@ side p j set =
     let chosen = map (λ (n : ℕ × ℕ). n.1) coded in
     filter (λ point. has chosen (cluster_first_at p point)) (judged_points p.nets)
 
--- the ends of the components are points of the matrix
+-- the point is judged
+abbrev pub IsJudged : NetTable → ℕ → Type 0
+IsJudged t point = IsTrue (has (judged_points t) point)
+
+-- the ends of the components are judged points
 abbrev pub ResistorsInside : NetTable → List Resistor → Type 0
-ResistorsInside t resistors = All (λ (r : Resistor). (r.a < t.points) × (r.b < t.points)) resistors
+ResistorsInside t resistors = All (λ (r : Resistor). IsJudged t r.a × IsJudged t r.b) resistors
 
 abbrev pub DiodesInside : NetTable → List Diode → Type 0
-DiodesInside t diodes = All (λ (d : Diode). (d.from < t.points) × (d.to < t.points)) diodes
+DiodesInside t diodes = All (λ (d : Diode). IsJudged t d.from × IsJudged t d.to) diodes
 
 pub record ComponentsInside (p : Program) : Type 0 where
   pub resistors_in : ResistorsInside p.nets p.resistors
   pub diodes_in : DiodesInside p.nets p.diodes
-
--- for each point the first net of its cluster
-abbrev pub first_nets_of : NetTable → List ℕ → List ℕ
-first_nets_of t classes = map (λ q. class_at classes (net_at t q)) (points_below t.points)

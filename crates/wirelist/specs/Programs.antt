@@ -4,6 +4,7 @@ use Rattle.std.specs.Prelude.{◌≡◌, ◌≢◌, ℕ, ◌+◌, ◌≤◌, ◌
 use Rattle.partition.specs.Names.{IsName}
 use Rattle.partition.specs.NetTable.{IsNetTable}
 use Rattle.wirelist.specs.Clusters.{ComponentsInside, component_links, cluster_count}
+use Rattle.wirelist.specs.Numbers.{IsIn, milliohms, millivolts, revisions, insulation_volts, insulation_ticks, megohms, withstand_volts, withstand_ticks, nanoamps, attempts}
 use Rattle.wirelist.specs.Ranges.{most_points, most_parts, most_clusters}
 use Rattle.wirelist.specs.declared.program.Program.{Program}
 use Rattle.wirelist.specs.declared.program.Insulation.{Insulation}
@@ -11,35 +12,31 @@ use Rattle.wirelist.specs.declared.program.Withstand.{Withstand}
 use Rattle.wirelist.specs.declared.parts.Resistor.{Resistor}
 use Rattle.wirelist.specs.declared.parts.Diode.{Diode}
 
--- the number lies in the range
-abbrev pub IsWithin : ℕ → ℕ → ℕ → Type 0
-IsWithin low most n = (low ≤ n) × (n ≤ most)
-
--- a window of milliohms: above what a joined pair reads, at most 1,000,000,000,000
+-- a window of milliohms
 pub record IsResistor (r : Resistor) : Type 0 where
   pub name : IsName r.name
-  pub low : 10001 ≤ r.min
+  pub low : milliohms.low ≤ r.min
   pub window : r.min ≤ r.max
-  pub high : r.max ≤ 1000000000000
+  pub high : r.max ≤ milliohms.most
 
 -- a window of millivolts
 pub record IsDiode (d : Diode) : Type 0 where
   pub name : IsName d.name
-  pub low : 1 ≤ d.min
+  pub low : millivolts.low ≤ d.min
   pub window : d.min ≤ d.max
-  pub high : d.max ≤ 5000
+  pub high : d.max ≤ millivolts.most
 
 pub record IsInsulation (i : Insulation) : Type 0 where
-  pub volts : IsWithin 50 1000 i.volts
+  pub volts : IsIn insulation_volts i.volts
   pub steps : i.volts % 50 ≡ 0
-  pub ticks : IsWithin 1 1200 i.ticks
-  pub megohms : IsWithin 1 100000 i.megohms
+  pub ticks : IsIn insulation_ticks i.ticks
+  pub megohms : IsIn megohms i.megohms
 
 pub record IsWithstand (w : Withstand) : Type 0 where
-  pub volts : IsWithin 50 2000 w.volts
+  pub volts : IsIn withstand_volts w.volts
   pub steps : w.volts % 50 ≡ 0
-  pub ticks : IsWithin 1 600 w.ticks
-  pub nanoamps : IsWithin 1 10000000 w.nanoamps
+  pub ticks : IsIn withstand_ticks w.ticks
+  pub nanoamps : IsIn nanoamps w.nanoamps
 
 -- the names of the nets and of the components
 abbrev pub all_names : Program → List (List ℕ)
@@ -49,7 +46,7 @@ all_names p = p.names ++ (map (λ (r : Resistor). r.name) p.resistors ++ map (λ
 abbrev pub SameLink : ℕ × ℕ → ℕ × ℕ → Type 0
 SameLink x y = ((x.0 ≡ y.0) × (x.1 ≡ y.1)) ⊎ ((x.0 ≡ y.1) × (x.1 ≡ y.0))
 
--- components lie between points of the matrix, each between two nets, and no two between the same two
+-- components lie between judged points, each between two nets, and no two between the same two
 pub record AreComponents (p : Program) : Type 0 where
   pub resistors : All IsResistor p.resistors
   pub diodes : All IsDiode p.diodes
@@ -61,7 +58,7 @@ pub record AreComponents (p : Program) : Type 0 where
 -- a wirelist can give the program
 pub record IsProgram (p : Program) : Type 0 where
   pub part : IsName p.part
-  pub revision : IsWithin 1 999999 p.revision
+  pub revision : IsIn revisions p.revision
   pub points : p.nets.points ≤ most_points
   pub nets : IsNetTable p.nets
   pub names : All IsName p.names
@@ -71,4 +68,4 @@ pub record IsProgram (p : Program) : Type 0 where
   pub insulation : IfSome p.insulation IsInsulation
   pub withstand : IfSome p.withstand IsWithstand
   pub clusters : IfSome p.insulation (λ _. cluster_count p ≤ most_clusters)
-  pub attempts : IsWithin 1 9 p.attempts
+  pub attempts : IsIn attempts p.attempts

@@ -1,9 +1,10 @@
 -- The ranges of outcomes, in which records keep them.
-use Rattle.std.specs.Prelude.{◌≡◌, ℕ, ◌+◌, ◌^◌, ◌<◌, ◌≤◌, ◌%◌, ◌⊎◌, ⊤, List, length, All, AllPairs, IfSome, sum_by, slice_index}
-use Rattle.std.specs.List.Sorted.{IsStrictlyIncreasing}
-use Rattle.partition.specs.declared.difference.Piece.{Piece}
-use Rattle.partition.specs.declared.difference.Short.{Short}
-use Rattle.partition.specs.declared.difference.Difference.{Difference}
+use Rattle.std.specs.Prelude.{◌≡◌, ℕ, ◌^◌, ◌<◌, ◌≤◌, ◌%◌, ⊤, List, length, All, AllPairs, IfSome}
+use Rattle.difference.specs.DifferenceRanges.{PieceWithin, ShortWithin, PiecesWithin, ShortsWithin, DifferenceWithin}
+use Rattle.difference.specs.declared.wiring.Piece.{Piece}
+use Rattle.difference.specs.declared.wiring.Short.{Short}
+use Rattle.difference.specs.declared.wiring.Difference.{Difference}
+use Rattle.wirelist.specs.Numbers.{points}
 use Rattle.wirelist.specs.declared.faults.PartFault.{PartFault}
 use Rattle.wirelist.specs.declared.faults.PartFaultKind.{PartFaultKind}
 use Rattle.wirelist.specs.declared.faults.PartFaultKind.TheVariants.{Low, High, OpenPart, WrongWay, Leaky}
@@ -13,7 +14,7 @@ use Rattle.wirelist.specs.declared.outcome.Outcome.TheVariants.{Pass, Wiring, Pa
 
 -- the limits: of nets, classes, points and entries; of components; of clusters; of bits; of volts
 abbrev pub most_points : ℕ
-most_points = 1024
+most_points = points.most
 
 abbrev pub most_parts : ℕ
 most_parts = 512
@@ -22,46 +23,30 @@ abbrev pub most_clusters : ℕ
 most_clusters = 256
 
 abbrev pub most_bits : ℕ
-most_bits = 10
+most_bits = 12
+
+-- the canonical text of a program has fewer bytes
+abbrev pub text_limit : ℕ
+text_limit = 200000
 
 abbrev pub IsTestVoltage : ℕ → Type 0
 IsTestVoltage v = (50 ≤ v) × (v ≤ 2000) × (v % 50 ≡ 0)
 
+-- what differs: numbers below the limit of points, in strict order, and no more than it all in all
 abbrev pub PieceInRange : Piece → Type 0
-PieceInRange piece = (piece.net < most_points) × (piece.class < most_points) × All (λ p. p < most_points) piece.points
-    × IsStrictlyIncreasing piece.points × (1 ≤ length piece.points)
+PieceInRange = PieceWithin most_points
 
 abbrev pub ShortInRange : Short → Type 0
-ShortInRange short = (short.class < most_points) × All (λ net. net < most_points) short.nets
-    × IsStrictlyIncreasing short.nets × (2 ≤ length short.nets)
-
--- by net, then by class
-abbrev pub PieceBefore : Piece → Piece → Type 0
-PieceBefore x y = (x.net < y.net) ⊎ ((x.net ≡ y.net) × (x.class < y.class))
+ShortInRange = ShortWithin most_points
 
 abbrev pub PiecesInRange : List Piece → Type 0
-PiecesInRange pieces = (length pieces ≤ most_points) × All PieceInRange pieces × AllPairs PieceBefore pieces
-
--- by first net
-abbrev pub ShortBefore : Short → Short → Type 0
-ShortBefore x y = slice_index x.nets 0 < slice_index y.nets 0
+PiecesInRange = PiecesWithin most_points
 
 abbrev pub ShortsInRange : List Short → Type 0
-ShortsInRange shorts = (length shorts ≤ most_points) × All ShortInRange shorts × AllPairs ShortBefore shorts
+ShortsInRange = ShortsWithin most_points
 
--- how many points all pieces have, and how many nets all shorts
-abbrev pub piece_points : List Piece → ℕ
-piece_points pieces = sum_by (λ (x : Piece). length x.points) pieces
-
-abbrev pub short_nets : List Short → ℕ
-short_nets shorts = sum_by (λ (x : Short). length x.nets) shorts
-
-pub record DifferenceInRange (d : Difference) : Type 0 where
-  pub opens_in : PiecesInRange d.opens
-  pub shorts_in : ShortsInRange d.shorts
-  pub miswires_in : PiecesInRange d.miswires
-  pub all_points : piece_points d.opens + piece_points d.miswires ≤ most_points
-  pub all_nets : short_nets d.shorts ≤ most_points
+abbrev pub DifferenceInRange : Difference → Type 0
+DifferenceInRange = DifferenceWithin most_points
 
 -- a reading is a number of 64 bits
 abbrev pub IsReading : ℕ → Type 0

@@ -4,7 +4,7 @@ ghost use Rattle.std.specs.Prelude.{◌≡◌};
 ghost use Rattle.wirelist.specs.Outcomes.{verdict_of, AreCountable};
 
 use crate::{LeakFaults, PartFaults};
-use partition::Difference;
+use difference::Difference;
 
 /// What a test found.
 #[derive(Debug, Drop)]

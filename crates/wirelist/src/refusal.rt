@@ -27,11 +27,11 @@ pub enum WireRefusal {
     BadWindow(u32),
     /// Both ends of the component lie in one net.
     PartInsideNet(u32),
-    /// Insulation is to be tested between so many clusters.
+    /// Insulation is to be tested between so many clusters of judged points.
     TooManyClusters(u32),
     /// The text has so many bytes.
     TooLong(u32),
-    /// The component has an end at no point.
+    /// The component has an end at no point that is judged.
     PartPoint(u32),
     /// An earlier component lies between the same two nets.
     SecondPart(u32),

@@ -10,10 +10,10 @@ use Rattle.std.proofs.lemmas.Bool.{cases_lt}
 use Rattle.std.proofs.lemmas.List.{get_or_past}
 use Rattle.wirelist_reader.specs.Kinds.{bad_fields, fits, is_number, kind_word, number, shape_after, shape_at, shapes_of}
 use Rattle.partition.specs.Names.{IsName}
-use Rattle.wirelist_reader.specs.Reading.{IsFit}
+use Rattle.wirelist_reader.specs.Reading.{ArePoints, IsFit}
 use Rattle.wirelist_reader.specs.Rows.{field_at, is_kind}
 use Rattle.wirelist_reader.specs.declared.kind.Kind.{Kind}
-use Rattle.wirelist_reader.specs.declared.kind.Kind.TheVariants.{Part, Points, Net, Resistor, Diode, Insulation, Withstand, Attempts}
+use Rattle.wirelist_reader.specs.declared.kind.Kind.TheVariants.{Part, Points, Net, Ignore, Resistor, Diode, Insulation, Withstand, Attempts}
 use Rattle.wirelist_reader.specs.declared.kind.Shape.{Shape}
 use Rattle.wirelist_reader.specs.declared.kind.Shape.TheVariants.{Name, Number, Volts, MorePoints, End}
 use Rattle.wirelist_reader.proofs.Numbers.{bytes_equal, and_left, and_right}
@@ -56,15 +56,15 @@ place_fits kind row none place low high =
 -- a field has to stand there
 abbrev needs_field : Shape → Bool
 needs_field Name = true
-needs_field (Number low most) = true
-needs_field (Volts low most) = true
+needs_field (Number range) = true
+needs_field (Volts range) = true
 needs_field MorePoints = false
 needs_field End = false
 
 missing : (shape : Shape) → needs_field shape ≡ true → fits shape None ≡ false
 missing Name e = refl
-missing (Number low most) e = refl
-missing (Volts low most) e = refl
+missing (Number range) e = refl
+missing (Volts range) e = refl
 missing MorePoints e = cc
 missing End e = cc
 
@@ -72,6 +72,7 @@ all_needed : (kind : Kind) → list_all needs_field (shapes_of kind) ≡ true
 all_needed Part = refl
 all_needed Points = refl
 all_needed Net = refl
+all_needed Ignore = refl
 all_needed Resistor = refl
 all_needed Diode = refl
 all_needed Insulation = refl
@@ -83,6 +84,7 @@ word_length : (kind : Kind) → 1 ≤ length (kind_word kind)
 word_length Part = omega arith
 word_length Points = omega arith
 word_length Net = omega arith
+word_length Ignore = omega arith
 word_length Resistor = omega arith
 word_length Diode = omega arith
 word_length Insulation = omega arith
@@ -130,21 +132,28 @@ pub field_fits : (kind : Kind) (row : List (List ℕ)) → IsFit row → IsTrue 
     fits (shape_at kind place) (Some (field_at row place)) ≡ true
 field_fits kind row fit is place low high = (fields_there kind row is (fit kind is) place low high).1
 
--- it is longer than its kind has places
-pub row_long : (kind : Kind) (row : List (List ℕ)) → IsFit row → IsTrue (is_kind kind row) → length (shapes_of kind) + 1 ≤ length row
-row_long kind row fit is = long (length (shapes_of kind)) refl
-  where
-    long : (n : ℕ) → length (shapes_of kind) ≡ n → n + 1 ≤ length row
-    long zero e = kind_not_empty kind row is
-    long (suc n) e = let last = (fields_there kind row is (fit kind is) (suc n) (omega arith) (omega arith)).0 in omega arith
-
--- a row of a net has points from its third field on
-pub net_point : (row : List (List ℕ)) → IsFit row → IsTrue (is_kind Net row) → (place : ℕ) → 2 ≤ place → place < length row → is_number 0 65535 (field_at row place) ≡ true
-net_point row fit is place low high =
-    let here = place_fits Net row (fit Net is) place (omega arith) (omega arith) in
-    let past : shape_at Net place ≡ MorePoints = get_or_past (shapes_of Net) (place - 1) MorePoints (omega arith) in
-    let there : fits (shape_at Net place) (Some (field_at row place)) ≡ true = subst (λ (f : Option (List ℕ)). fits (shape_at Net place) f ≡ true) (slice_get-get_or row place [] high) here in
+-- a row of a kind that goes on with points has points behind the places of its kind
+more_points : (kind : Kind) → shape_after kind ≡ MorePoints → (row : List (List ℕ)) → IsFit row → IsTrue (is_kind kind row) →
+    (place : ℕ) → length (shapes_of kind) < place → place < length row → is_number 0 65535 (field_at row place) ≡ true
+more_points kind goes_on row fit is place low high =
+    let here = place_fits kind row (fit kind is) place (omega arith) (omega arith) in
+    let past : shape_at kind place ≡ MorePoints = get_or_past (shapes_of kind) (place - 1) (shape_after kind) (omega arith) ∙ goes_on in
+    let there : fits (shape_at kind place) (Some (field_at row place)) ≡ true =
+    subst (λ (f : Option (List ℕ)). fits (shape_at kind place) f ≡ true) (slice_get-get_or row place [] high) here in
     subst (λ (s : Shape). fits s (Some (field_at row place)) ≡ true) past there
+
+-- a net has points from its third field on, the row of ignored points from its second
+pub net_points : (row : List (List ℕ)) → IsFit row → IsTrue (is_kind Net row) → ArePoints 2 row
+net_points row fit is place low high = more_points Net refl row fit is place (omega arith) high
+
+pub ignored_points : (row : List (List ℕ)) → IsFit row → IsTrue (is_kind Ignore row) → ArePoints 1 row
+ignored_points row fit is place low high =
+    elim (cases_lt 1 place) as (λ _. is_number 0 65535 (field_at row place) ≡ true) [
+      | inl later ↦ more_points Ignore refl row fit is place (omega arith) high
+      | inr first ↦
+          let one : 1 ≡ place = omega arith in
+          subst (λ (k : ℕ). is_number 0 65535 (field_at row k) ≡ true) one (field_fits Ignore row fit is 1 (omega arith) (omega arith))
+    ]
 
 -- ---- numbers and names of rows that are fit
 
@@ -155,7 +164,7 @@ module _ (row : List (List ℕ)) (fit : IsFit row) where
   pub part_revision : IsTrue (is_kind Part row) → is_number 1 999999 (field_at row 2) ≡ true
   part_revision is = field_fits Part row fit is 2 (omega arith) (omega arith)
 
-  pub points_number : IsTrue (is_kind Points row) → is_number 1 1024 (field_at row 1) ≡ true
+  pub points_number : IsTrue (is_kind Points row) → is_number 1 4096 (field_at row 1) ≡ true
   points_number is = field_fits Points row fit is 1 (omega arith) (omega arith)
 
   pub net_name : IsTrue (is_kind Net row) → IsName (field_at row 1)

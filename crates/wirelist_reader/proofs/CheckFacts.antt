@@ -19,10 +19,10 @@ use Rattle.wirelist_reader.proofs.KindFacts.{is_kind_of}
 use Rattle.wirelist_reader.proofs.Numbers.{word_is_number, word_number}
 
 -- too many points are told as such
-pub too_many_points : (row : List (List ℕ)) (n place points : ℕ) → place ≡ 1 → is_kind Points row ≡ true → IsNumberWord (field_at row 1) 1025 4294967295 points
+pub too_many_points : (row : List (List ℕ)) (n place points : ℕ) → place ≡ 1 → is_kind Points row ≡ true → IsNumberWord (field_at row 1) 4097 4294967295 points
     → wire.TooManyPoints points ≡ bad_field row n place
 too_many_points row n place points first kind word =
-    rw (first, kind, word_is_number (field_at row 1) 1025 4294967295 points (omega arith) word, word_number (field_at row 1) 1025 4294967295 points (omega arith) word) refl
+    rw (first, kind, word_is_number (field_at row 1) 4097 4294967295 points (omega arith) word, word_number (field_at row 1) 4097 4294967295 points (omega arith) word) refl
 
 -- the first of some places, told
 first_told : (row : List (List ℕ)) (n place : ℕ) (places : List ℕ) → Some place ≡ slice_get places 0 → slice_get (map (bad_field row n) places) 0 ≡ Some (bad_field row n place)

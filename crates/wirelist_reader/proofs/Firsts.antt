@@ -39,7 +39,7 @@ first_in_left (x ∷ xs) ys e is = is
 pub first_in_right : (xs ys : List WireRefusal) (e : WireRefusal) → xs ≡ [] → slice_get ys 0 ≡ Some e → slice_get (xs ++ ys) 0 ≡ Some e
 first_in_right xs ys e none is = rw none is
 
-pub none_in_both : (xs ys : List WireRefusal) → xs ≡ [] → ys ≡ [] → xs ++ ys ≡ []
+pub none_in_both : {A : Type 0} (xs ys : List A) → xs ≡ [] → ys ≡ [] → xs ++ ys ≡ []
 none_in_both xs ys none also = rw (none, also) refl
 
 -- a test of all

@@ -1,15 +1,14 @@
 -- The ends of the components, where no component has a fault.
 use Rattle.std.proofs.Common.{◌≡◌, ℕ, ◌+◌, ◌<◌, ◌&&◌, Bool, true, false, cond, List, [], ◌∷◌, ◌++◌, length, get_or, refl, take, filter, All}
-use Rattle.std.specs.Prelude.{nat_lt}
 use Rattle.std.specs.List.{list_any}
-use Rattle.std.proofs.lemmas.Bool.{and_parts, ltb-true, eqb-false}
+use Rattle.std.proofs.lemmas.Bool.{and_parts, eqb-false}
 use Rattle.std.proofs.lemmas.List.Elements.{All-from_get_or, All-map}
-use Rattle.partition.specs.Classes.{points_below}
-use Rattle.partition.specs.NetTable.{NetTable, net_at}
+use Rattle.partition.specs.Classes.{points_below, has}
+use Rattle.partition.specs.NetTable.{NetTable, judged_points, net_at}
 use Rattle.partition.proofs.Members.{In, In-append_left, In-append_right, In-map, In-filter}
 use Rattle.partition.proofs.NetLaws.{All-In}
 use Rattle.partition.proofs.KeptLemmas.{points_below-In}
-use Rattle.wirelist.specs.Clusters.{ComponentsInside}
+use Rattle.wirelist.specs.Clusters.{IsJudged, ComponentsInside}
 use Rattle.wirelist.specs.declared.parts.Resistor.{Resistor as Res}
 use Rattle.wirelist.specs.declared.parts.Diode.{Diode as Dio}
 use Rattle.wirelist_reader.specs.Rows.{row_at, is_kind, number_at, rows_of_kind, ends_in, ends_of_kind, ends_of, resistor_of, diode_of, program_of}
@@ -35,10 +34,9 @@ pub record IsSound (t : NetTable) (before : List PartEnds) (part : PartEnds) : T
 
 pub sound : (t : NetTable) (before : List PartEnds) (part : PartEnds) → component_faults t before part ≡ [] → IsSound t before part
 sound t before part none =
-    let parts = guarded (nat_lt part.a t.points && nat_lt part.b t.points) _ _ _ none in
-    let both = and_parts (nat_lt part.a t.points) (nat_lt part.b t.points) parts.0 in
+    let parts = guarded (has (judged_points t) part.a && has (judged_points t) part.b) _ _ _ none in
     record {
-      inside = (ltb-true part.a t.points both.0, ltb-true part.b t.points both.1);
+      inside = and_parts (has (judged_points t) part.a) (has (judged_points t) part.b) parts.0;
       across = eqb-false (net_at t part.a) (net_at t part.b) (no_fault _ _ parts.1);
       alone = no_fault _ _ parts.2;
     }
@@ -61,9 +59,9 @@ in_ends kind rows i l is =
     let test : ℕ → Bool = λ k. is_kind kind (row_at rows k) in
     In-map ends i (filter test (points_below (length rows))) (In-filter test i (points_below (length rows)) (points_below-In (length rows) i l) is)
 
--- the ends of the component of a row are points
+-- the ends of the component of a row are judged points
 abbrev RowInside : NetTable → List (List ℕ) → Type 0
-RowInside t row = (number_at row 2 < t.points) × (number_at row 3 < t.points)
+RowInside t row = IsJudged t (number_at row 2) × IsJudged t (number_at row 3)
 
 module _ (t : NetTable) (rows : List (List (List ℕ))) (none : part_faults t (ends_of rows) ≡ []) where
   resistors_inside : All (RowInside t) (rows_of_kind Resistor rows)
@@ -78,11 +76,11 @@ module _ (t : NetTable) (rows : List (List (List ℕ))) (none : part_faults t (e
       (λ i l is. All-In (LiesInside t) (ends_in (i + 1) (row_at rows i)) (ends_of rows) (all_inside t (ends_of rows) none)
       (In-append_right _ (ends_of_kind Resistor rows) (ends_of_kind Diode rows) (in_ends Diode rows i l is)))
 
--- the components of the program lie between points of the matrix
+-- the components of the program lie between judged points
 pub inside_of_faultless : (rows : List (List (List ℕ))) → part_faults (program_of rows).nets (ends_of rows) ≡ [] → ComponentsInside (program_of rows)
 inside_of_faultless rows none =
     let t = (program_of rows).nets in
     record {
-      resistors_in = All-map (λ (r : Res). (r.a < t.points) × (r.b < t.points)) resistor_of (rows_of_kind Resistor rows) (resistors_inside t rows none);
-      diodes_in = All-map (λ (d : Dio). (d.from < t.points) × (d.to < t.points)) diode_of (rows_of_kind Diode rows) (diodes_inside t rows none);
+      resistors_in = All-map (λ (r : Res). IsJudged t r.a × IsJudged t r.b) resistor_of (rows_of_kind Resistor rows) (resistors_inside t rows none);
+      diodes_in = All-map (λ (d : Dio). IsJudged t d.from × IsJudged t d.to) diode_of (rows_of_kind Diode rows) (diodes_inside t rows none);
     }

@@ -1,5 +1,5 @@
--- Rows without a fault give a program.
-use Rattle.std.proofs.Common.{◌≡◌, ◌%◌, eqb, ℕ, ◌<◌, ◌≤◌, ◌&&◌, Bool, true, false, List, [], ◌∷◌, ◌++◌, length, get_or, Option, None, Some, sym, ◌∙◌, ap, arith, map, filter, All}
+-- Rows without a fault, whose nets are a table, give a program.
+use Rattle.std.proofs.Common.{◌≡◌, ◌%◌, eqb, ℕ, ◌<◌, ◌≤◌, ◌&&◌, Bool, true, false, List, [], ◌∷◌, length, get_or, Option, None, Some, sym, ◌∙◌, ap, arith, map, filter, All}
 use Rattle.std.specs.Prelude.{slice_get, option_map, is_some, IfSome, nat_lt}
 use Rattle.std.specs.List.{list_any}
 use Rattle.std.proofs.lemmas.Bool.{and_parts, not-false, ltb-false, eqb-true}
@@ -7,23 +7,22 @@ use Rattle.std.proofs.lemmas.List.{length-map}
 use Rattle.std.proofs.lemmas.List.Elements.{All-map}
 use Rattle.std.proofs.lemmas.List.Folds.{Any-from_list_any}
 use Rattle.partition.specs.Names.{IsName}
-use Rattle.partition.specs.NetFaults.{all_faults, ascending_net}
+use Rattle.partition.specs.NetFaults.{ascending_net}
+use Rattle.partition.specs.NetTable.{IsNetTable}
 use Rattle.partition.proofs.Members.{In-filter}
 use Rattle.partition.proofs.NetLaws.{In-index}
 use Rattle.wirelist.specs.Clusters.{cluster_count}
-use Rattle.wirelist.specs.Programs.{IsWithin, IsInsulation, IsWithstand, IsProgram}
+use Rattle.wirelist.specs.Numbers.{IsWithin}
+use Rattle.wirelist.specs.Programs.{IsInsulation, IsWithstand, IsProgram}
 use Rattle.wirelist.specs.Ranges.{most_clusters}
-use Rattle.wirelist.specs.declared.refusal.WireRefusal.TheVariants as wire
 use Rattle.wirelist_reader.specs.Kinds.{is_number}
 use Rattle.wirelist_reader.specs.Rows.{field_at, is_kind, number_at, first_of, rows_of_kind, points_in, listed_nets, ends_of, insulation_of, withstand_of, attempts_of, program_of}
-use Rattle.wirelist_reader.specs.Refusals.{all_row_faults, head_faults, net_faults, part_faults, cluster_faults, rows_refusals}
+use Rattle.wirelist_reader.specs.Refusals.{all_row_faults, head_faults, part_faults, cluster_faults}
 use Rattle.wirelist_reader.specs.declared.kind.Kind.TheVariants.{Part, Points, Net, Insulation, Withstand, Attempts}
-use Rattle.wirelist_reader.proofs.GivenLists.{append_none, map_none}
 use Rattle.wirelist_reader.proofs.GivenPairs.{index-In}
 use Rattle.wirelist_reader.proofs.Numbers.{and_right}
 use Rattle.wirelist_reader.proofs.BuildFacts.{part_name, part_revision, points_number, net_name, insulation_volts, insulation_numbers, withstand_volts, withstand_numbers, attempts_number}
 use Rattle.wirelist_reader.proofs.GivenRows.{no_fault, rows_clean, within}
-use Rattle.wirelist_reader.proofs.GivenNets.{table_of_faultless}
 use Rattle.wirelist_reader.proofs.GivenNames.{names_distinct}
 use Rattle.wirelist_reader.proofs.GivenParts.{components_of_faultless}
 
@@ -61,9 +60,9 @@ module _ (rows : List (List (List ℕ))) (none : all_row_faults rows ≡ []) (he
       rows_clean rows none Part (λ row. IsName (field_at row 1) × IsWithin 1 999999 (number_at row 2)) (λ before row fit is known. (part_name row fit is, within 1 999999 (field_at row 2) (part_revision row fit is)))
       0 [] (some_kept (is_kind Part) rows both_heads.0)
 
-  points_are : IsWithin 1 1024 (points_in rows)
+  points_are : IsWithin 1 4096 (points_in rows)
   points_are =
-      rows_clean rows none Points (λ row. IsWithin 1 1024 (number_at row 1)) (λ before row fit is known. within 1 1024 (field_at row 1) (points_number row fit is))
+      rows_clean rows none Points (λ row. IsWithin 1 4096 (number_at row 1)) (λ before row fit is known. within 1 4096 (field_at row 1) (points_number row fit is))
       0 [] (some_kept (is_kind Points) rows both_heads.1)
 
   nets_named : All (λ row. IsName (field_at row 1)) (rows_of_kind Net rows)
@@ -101,14 +100,14 @@ module _ (rows : List (List (List ℕ))) (none : all_row_faults rows ≡ []) (he
   attempts_rows : All (λ row. IsWithin 1 9 (number_at row 1)) (rows_of_kind Attempts rows)
   attempts_rows = rows_clean rows none Attempts (λ row. IsWithin 1 9 (number_at row 1)) (λ before row fit is known. within 1 9 (field_at row 1) (attempts_number row fit is))
 
-  pub program_of_faultless : net_faults rows ≡ [] → part_faults (program_of rows).nets (ends_of rows) ≡ [] → cluster_faults (program_of rows) ≡ [] → IsProgram (program_of rows)
+  pub program_of_faultless : IsNetTable (program_of rows).nets → part_faults (program_of rows).nets (ends_of rows) ≡ [] → cluster_faults (program_of rows) ≡ [] → IsProgram (program_of rows)
   program_of_faultless nets parts clusters =
       let p = program_of rows in
       record {
         part = part_is.0;
         revision = part_is.1;
         points = points_are.1;
-        nets = table_of_faultless (points_in rows) (listed_nets rows) (map_none wire.Nets (all_faults (points_in rows) (listed_nets rows)) nets) points_are.0;
+        nets = nets;
         names = All-map IsName (λ row. field_at row 1) (rows_of_kind Net rows) nets_named;
         one_each = one_for_each;
         distinct = names_distinct rows none;
@@ -120,13 +119,3 @@ module _ (rows : List (List (List ℕ))) (none : all_row_faults rows ≡ []) (he
             (λ few. ltb-false most_clusters (cluster_count p) few);
         attempts = attempts_within (rows_of_kind Attempts rows) attempts_rows;
       }
-
--- rows that are not refused give a program
-pub faultless_is_program : (rows : List (List (List ℕ))) → rows_refusals rows ≡ [] → IsProgram (program_of rows)
-faultless_is_program rows none =
-    let nets_on = part_faults (program_of rows).nets (ends_of rows) ++ cluster_faults (program_of rows) in
-    let one = append_none (all_row_faults rows) (head_faults rows ++ (net_faults rows ++ nets_on)) none in
-    let two = append_none (head_faults rows) (net_faults rows ++ nets_on) one.1 in
-    let three = append_none (net_faults rows) nets_on two.1 in
-    let four = append_none (part_faults (program_of rows).nets (ends_of rows)) (cluster_faults (program_of rows)) three.1 in
-    program_of_faultless rows one.0 two.0 three.0 four.0 four.1

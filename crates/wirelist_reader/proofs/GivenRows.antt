@@ -4,7 +4,7 @@ use Rattle.std.specs.Prelude.{nat_le, nat_lt, bytes_eq}
 use Rattle.std.specs.List.{list_any}
 use Rattle.std.proofs.lemmas.Bool.{ne_eqb}
 use Rattle.std.proofs.lemmas.List.Elements.{All-from_get_or, All-get_or}
-use Rattle.wirelist.specs.Programs.{IsWithin}
+use Rattle.wirelist.specs.Numbers.{IsWithin}
 use Rattle.wirelist.specs.Ranges.{most_parts}
 use Rattle.wirelist.specs.declared.refusal.WireRefusal.{WireRefusal}
 use Rattle.wirelist_reader.specs.Kinds.{kind_of, bad_fields, number, is_number}

@@ -4,7 +4,7 @@ use Rattle.std.specs.Prelude.{bytes_eq, find}
 use Rattle.wirelist_reader.specs.Kinds.{kind_of, kind_word, all_kinds}
 use Rattle.wirelist_reader.specs.Rows.{field_at, is_kind, is_named, is_component}
 use Rattle.wirelist_reader.specs.declared.kind.Kind.{Kind}
-use Rattle.wirelist_reader.specs.declared.kind.Kind.TheVariants.{Part, Points, Net, Resistor, Diode, Insulation, Withstand, Attempts}
+use Rattle.wirelist_reader.specs.declared.kind.Kind.TheVariants.{Part, Points, Net, Ignore, Resistor, Diode, Insulation, Withstand, Attempts}
 use Rattle.wirelist_reader.proofs.Numbers.{bytes_equal, bytes_same}
 
 -- what is found passes the test
@@ -25,6 +25,7 @@ pub kind_of_word : (kind : Kind) → kind_of (kind_word kind) ≡ Some kind
 kind_of_word Part = refl
 kind_of_word Points = refl
 kind_of_word Net = refl
+kind_of_word Ignore = refl
 kind_of_word Resistor = refl
 kind_of_word Diode = refl
 kind_of_word Insulation = refl
@@ -43,6 +44,7 @@ abbrev pub named_kind : Kind → Bool
 named_kind Part = false
 named_kind Points = false
 named_kind Net = true
+named_kind Ignore = false
 named_kind Resistor = true
 named_kind Diode = true
 named_kind Insulation = false
@@ -53,6 +55,7 @@ abbrev pub component_kind : Kind → Bool
 component_kind Part = false
 component_kind Points = false
 component_kind Net = false
+component_kind Ignore = false
 component_kind Resistor = true
 component_kind Diode = true
 component_kind Insulation = false
@@ -63,6 +66,7 @@ named_by_word : (kind : Kind) (row : List (List ℕ)) → field_at row 0 ≡ kin
 named_by_word Part row e = rw e refl
 named_by_word Points row e = rw e refl
 named_by_word Net row e = rw e refl
+named_by_word Ignore row e = rw e refl
 named_by_word Resistor row e = rw e refl
 named_by_word Diode row e = rw e refl
 named_by_word Insulation row e = rw e refl
@@ -73,6 +77,7 @@ component_by_word : (kind : Kind) (row : List (List ℕ)) → field_at row 0 ≡
 component_by_word Part row e = rw e refl
 component_by_word Points row e = rw e refl
 component_by_word Net row e = rw e refl
+component_by_word Ignore row e = rw e refl
 component_by_word Resistor row e = rw e refl
 component_by_word Diode row e = rw e refl
 component_by_word Insulation row e = rw e refl

@@ -7,7 +7,6 @@ pub mod BuildFacts
 pub mod GivenLists
 pub mod GivenRows
 pub mod GivenEnds
-pub mod GivenNets
 pub mod GivenPairs
 pub mod GivenNames
 pub mod GivenLinks

@@ -1,10 +1,10 @@
 -- The rows of a program's text have no fault.
-use Rattle.std.proofs.Common.{◌≡◌, ◌≢◌, ℕ, ◌≤◌, true, false, List, [], ◌++◌, length, map, filter, AllPairs, IfSome, Option, None, Some, refl, sym, ◌∙◌, ap, subst, arith, is_some}
+use Rattle.std.proofs.Common.{◌≡◌, ◌≢◌, ℕ, ◌≤◌, true, false, List, [], ◌∷◌, ◌++◌, length, map, filter, AllPairs, IfSome, Option, None, Some, refl, sym, ◌∙◌, ap, subst, arith, is_some}
 use Rattle.std.specs.Prelude.{◌&&◌, nat_lt}
 use Rattle.std.proofs.lemmas.Bool.{le-ltb}
 use Rattle.std.proofs.lemmas.List.{map-append}
 use Rattle.partition.specs.NetFaults.{all_faults}
-use Rattle.wirelist.specs.Canonical.{rows_of, net_row, resistor_row, diode_row, insulation_rows, withstand_rows}
+use Rattle.wirelist.specs.Canonical.{rows_of, net_row, ignore_rows, resistor_row, diode_row, insulation_rows, withstand_rows}
 use Rattle.wirelist.specs.Clusters.{cluster_count}
 use Rattle.wirelist.specs.Programs.{IsProgram, all_names}
 use Rattle.wirelist.specs.declared.program.Program.{Program}
@@ -13,17 +13,21 @@ use Rattle.wirelist.specs.declared.program.Withstand as withstand
 use Rattle.wirelist.specs.declared.parts.Resistor as resistor
 use Rattle.wirelist.specs.declared.parts.Diode as diode
 use Rattle.wirelist.specs.declared.refusal.WireRefusal.TheVariants as wire
-use Rattle.wirelist_reader.specs.Rows.{field_at, is_kind, listed_nets, ends_of, program_of}
+use Rattle.wirelist_reader.specs.Rows.{field_at, is_kind, listed_nets, listed_ignored, ends_of, program_of}
 use Rattle.wirelist_reader.specs.Refusals.{rows_refusals, all_row_faults, head_faults, net_faults, part_faults, cluster_faults, is_single, names_in}
 use Rattle.wirelist_reader.specs.declared.kind.Kind.{Kind}
-use Rattle.wirelist_reader.specs.declared.kind.Kind.TheVariants.{Part, Points, Net, Resistor, Diode, Insulation, Withstand, Attempts}
+use Rattle.wirelist_reader.specs.declared.kind.Kind.TheVariants.{Part, Points, Net, Ignore, Resistor, Diode, Insulation, Withstand, Attempts}
 use Rattle.wirelist_reader.proofs.Firsts.{none_in_both}
 use Rattle.wirelist_reader.proofs.PrintedLists.{map_same, zip_first}
 use Rattle.wirelist_reader.proofs.PrintedNets.{nets_none}
-use Rattle.wirelist_reader.proofs.PrintedKinds.{named_nets, named_rows, part_rows, points_rows, insulation_rows_are, withstand_rows_are, attempts_rows, component_count}
-use Rattle.wirelist_reader.proofs.PrintedProgram.{rows_printed, printed_gives_back, points_are, listed_are}
+use Rattle.wirelist_reader.proofs.PrintedKinds.{named_nets, named_rows, part_rows, points_rows, ignore_rows_are, insulation_rows_are, withstand_rows_are, attempts_rows, component_count}
+use Rattle.wirelist_reader.proofs.PrintedProgram.{rows_printed, printed_gives_back, points_are, listed_are, ignored_are}
 use Rattle.wirelist_reader.proofs.PrintedWhole.{IsWhole, rows_none, fault_none}
 use Rattle.wirelist_reader.proofs.PrintedParts.{parts_none}
+
+ignored_few : (ps : List ℕ) → length (ignore_rows ps) ≤ 1
+ignored_few [] = omega arith
+ignored_few (p ∷ ps) = omega arith
 
 insulation_few : (o : Option insulation.Insulation) → length (insulation_rows o) ≤ 1
 insulation_few None = omega arith
@@ -38,6 +42,7 @@ module _ (p : Program) where
   single_once Part h = omega (arith, ap length (part_rows p))
   single_once Points h = omega (arith, ap length (points_rows p))
   single_once Net h = absurd (let e : false ≡ true = h in cc)
+  single_once Ignore h = omega (arith, ap length (ignore_rows_are p), ignored_few p.nets.ignored)
   single_once Resistor h = absurd (let e : false ≡ true = h in cc)
   single_once Diode h = absurd (let e : false ≡ true = h in cc)
   single_once Insulation h = omega (arith, ap length (insulation_rows_are p), insulation_few p.insulation)
@@ -74,7 +79,10 @@ module _ (p : Program) (ok : IsProgram p) where
   nets_are_none : net_faults (rows_of p) ≡ []
   nets_are_none =
       ap (map wire.Nets) (
-      ap (λ n. all_faults n (listed_nets (rows_of p))) (points_are p ok) ∙ ap (all_faults p.nets.points) (listed_are p ok) ∙ nets_none p.nets ok.nets
+      ap (λ n. all_faults n (listed_nets (rows_of p)) (listed_ignored (rows_of p))) (points_are p ok)
+      ∙ ap (λ nets. all_faults p.nets.points nets (listed_ignored (rows_of p))) (listed_are p ok)
+      ∙ ap (all_faults p.nets.points p.nets.named) (ignored_are p ok)
+      ∙ nets_none p.nets ok.nets
       )
 
   parts_are_none : part_faults (program_of (rows_of p)).nets (ends_of (rows_of p)) ≡ []

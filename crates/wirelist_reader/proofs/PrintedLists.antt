@@ -38,10 +38,10 @@ zip_second [] (y ∷ ys) same = absurd (omega arith)
 zip_second (x ∷ xs) [] same = absurd (omega arith)
 zip_second (x ∷ xs) (y ∷ ys) same = ap (λ zs. y ∷ zs) (zip_second xs ys (omega arith))
 
--- six lists in a row, each by itself
-pub filter_six : {X : Type 0} (t : X → Bool) (a b c d e f : List X)
-    → filter t (a ++ (b ++ (c ++ (d ++ (e ++ f))))) ≡ filter t a ++ (filter t b ++ (filter t c ++ (filter t d ++ (filter t e ++ filter t f))))
-filter_six t a b c d e f = simp (filter-append)
+-- seven lists in a row, each by itself
+pub filter_seven : {X : Type 0} (t : X → Bool) (a b c d e f g : List X)
+    → filter t (a ++ (b ++ (c ++ (d ++ (e ++ (f ++ g)))))) ≡ filter t a ++ (filter t b ++ (filter t c ++ (filter t d ++ (filter t e ++ (filter t f ++ filter t g)))))
+filter_seven t a b c d e f g = simp (filter-append)
 
 -- a test that fails at each number of a range
 pub filter_range_none : (t : ℕ → Bool) (a n : ℕ) → ((i : ℕ) → t (a + i) ≡ false) → filter t (range_with_len a n) ≡ []

@@ -1,7 +1,7 @@
 -- The nets of a table, listed: they have no fault, and they give the table back.
-use Rattle.std.proofs.Common.{◌≡◌, inl, inr, ℕ, zero, suc, ◌+◌, ◌<◌, ◌≤◌, Bool, true, false, cond, List, [], ◌∷◌, ◌++◌, length, get_or, take, filter, flat_map, All, AllPairs, Contains, refl, sym, ◌∙◌, ap, subst, arith, lt-ltb, ne_eqb}
-use Rattle.std.specs.Prelude.{◌==◌, nat_lt}
-use Rattle.std.specs.List.{range_with_len, concat}
+use Rattle.std.proofs.Common.{◌≡◌, inl, inr, ℕ, zero, suc, ◌+◌, ◌<◌, ◌≤◌, Bool, true, false, cond, not, List, [], ◌∷◌, ◌++◌, length, get_or, take, filter, flat_map, All, AllPairs, Contains, refl, sym, ◌∙◌, ap, subst, arith, lt-ltb, ne_eqb}
+use Rattle.std.specs.Prelude.{◌==◌}
+use Rattle.std.specs.List.{range_with_len, concat, list_all}
 use Rattle.std.specs.List.Sorted.{IsStrictlyIncreasing}
 use Rattle.std.proofs.Math.Seq.{get_or-append_seam}
 use Rattle.std.proofs.lemmas.Bool.{cases_eq}
@@ -9,15 +9,17 @@ use Rattle.std.proofs.lemmas.List.{get_or_append_left, length-append}
 use Rattle.std.proofs.lemmas.List.Folds.{map_fixed}
 use Rattle.partition.specs.Classes.{points_below, has, AscendsFrom}
 use Rattle.partition.specs.NetTable.{NetTable, IsNetTable, judged_points, Disjoint}
-use Rattle.partition.specs.NetFaults.{all_faults, ascending_net, table_of}
+use Rattle.partition.specs.NetFaults.{all_faults, ascending_net, ignored_faults, net_faults, none_judged, point_fault, table_of}
 use Rattle.partition.specs.declared.nets.NetsRefusal.{NetsRefusal}
-use Rattle.partition.specs.declared.nets.NetsRefusal.TheVariants.{OutOfRange, Twice, EmptyNet}
+use Rattle.partition.specs.declared.nets.NetsRefusal.TheVariants.{OutOfRange, Twice, EmptyNet, NoneJudged}
 use Rattle.partition.proofs.ClassLaws.{has-head, has-above, range-has}
-use Rattle.partition.proofs.Members.{has-In, In-has, In-append_right}
-use Rattle.partition.proofs.NetLaws.{In-index, All-In, Contains-In}
-use Rattle.partition.proofs.KeptLemmas.{filter-agree, In-points_below}
+use Rattle.partition.proofs.Members.{has-In, In-has, In-append_right, In-filter_cases}
+use Rattle.partition.proofs.NetLaws.{In-index, index-In, All-In, Contains-In, judged-below, judged-is}
+use Rattle.partition.proofs.KeptLemmas.{filter-agree}
 use Rattle.partition.proofs.PickedLemmas.{increasing_below}
 use Rattle.partition.proofs.ClaimLemmas.{has-append_cases}
+use Rattle.wirelist_reader.proofs.BuildFacts.{all_pass}
+use Rattle.wirelist_reader.proofs.Firsts.{none_in_both}
 use Rattle.wirelist_reader.proofs.Numbers.{not_true}
 use Rattle.wirelist_reader.proofs.PrintedLists.{none_of_splits}
 
@@ -65,14 +67,31 @@ kept (suc n) a (x ∷ xs) s below =
 pub ascending_is : (n : ℕ) (net : List ℕ) → IsStrictlyIncreasing net → ((p : ℕ) → has net p ≡ true → p < n) → ascending_net n net ≡ net
 ascending_is n net up below = kept n 0 net (ascends net up 0 (λ l. omega arith)) (λ p h. let b = below p h in omega arith)
 
--- the points of a table's net are points of the matrix
-pub net_below : (n : ℕ) (net : List ℕ) → All (Contains (points_below n)) net → (p : ℕ) → has net p ≡ true → p < n
-net_below n net inside p h = In-points_below n p (Contains-In p (points_below n) (All-In (Contains (points_below n)) p net inside (has-In p net h)))
+-- the points of a table's net are judged points, and so points of the matrix that are not ignored
+module _ (t : NetTable) (net : List ℕ) (inside : All (Contains (judged_points t)) net) (p : ℕ) (h : has net p ≡ true) where
+  net_judged : has (judged_points t) p ≡ true
+  net_judged = In-has p (judged_points t) (Contains-In p (judged_points t) (All-In (Contains (judged_points t)) p net inside (has-In p net h)))
 
-pub table_back : (t : NetTable) → IsNetTable t → table_of t.points t.named ≡ t
+  net_below : p < t.points
+  net_below = judged-below t p net_judged
+
+  net_other : has t.ignored p ≡ false
+  net_other = not_from (sym (judged-is t p net_below) ∙ net_judged)
+    where
+      not_from : {b : Bool} → not b ≡ true → b ≡ false
+      not_from {b = true} e = cc
+      not_from {b = false} e = refl
+
+-- an ignored point is a point of the matrix
+pub ignored_below : (t : NetTable) → IsNetTable t → (p : ℕ) → has t.ignored p ≡ true → p < t.points
+ignored_below t ok p h = All-In (λ q. q < t.points) p t.ignored ok.ignored_in_range (has-In p t.ignored h)
+
+pub table_back : (t : NetTable) → IsNetTable t → table_of t.points t.named t.ignored ≡ t
 table_back t ok =
-    let table : List (List ℕ) → NetTable = λ named. record { points = t.points; named = named } in
-    ap table (map_fixed (ascending_net t.points) t.named (λ k d l. ascending_is t.points (get_or t.named k d) (ok.ascending k d l) (net_below t.points (get_or t.named k d) (ok.in_range k d l))))
+    let table : List (List ℕ) → List ℕ → NetTable = λ named ignored. record { points = t.points; named = named; ignored = ignored } in
+    ap (λ named. table named (ascending_net t.points t.ignored))
+    (map_fixed (ascending_net t.points) t.named (λ k d l. ascending_is t.points (get_or t.named k d) (ok.ascending k d l) (net_below t (get_or t.named k d) (ok.in_range k d l))))
+    ∙ ap (table t.named) (ascending_is t.points t.ignored ok.ignored_ascending (ignored_below t ok))
 
 -- ---- nets of a table have no fault
 
@@ -82,10 +101,6 @@ concat_in (x ∷ xss) p h = elim (has-append_cases p x (concat xss) h) [
   | inl a ↦ (0, omega arith, a)
   | inr b ↦ let r = concat_in xss p b in let l = r.1 in (suc r.0, omega arith, r.2)
 ]
-
--- what is said of a point that stands behind these
-abbrev point_fault : ℕ → List ℕ → ℕ → List NetsRefusal
-point_fault n before p = cond (nat_lt p n) (cond (has before p) (Twice p ∷ []) []) (OutOfRange p ∷ [])
 
 point_none : (n : ℕ) (before : List ℕ) (p : ℕ) → p < n → (has before p ≡ true → ⊥) → point_fault n before p ≡ []
 point_none n before p inside new =
@@ -119,19 +134,22 @@ elsewhere before after net p apart own h =
 middle_has : (before after : List ℕ) (p : ℕ) → has (before ++ p ∷ after) p ≡ true
 middle_has before after p = In-has p (before ++ p ∷ after) (In-append_right p before (p ∷ after) (inl refl))
 
-module _ (n : ℕ) where
+module _ (t : NetTable) where
+  abbrev n : ℕ
+  n = t.points
+
   -- the faults of a net behind these
   abbrev faults_behind : ℕ → List (List ℕ) → List ℕ → List NetsRefusal
   faults_behind i before net =
       cond (length net == 0) (EmptyNet i ∷ []) (flat_map (λ j. point_fault n (concat before ++ take j net) (get_or net j 0)) (points_below (length net)))
 
-  net_none : (i : ℕ) (before after : List (List ℕ)) (net : List ℕ) → 0 < length net → IsStrictlyIncreasing net → All (Contains (points_below n)) net →
+  net_none : (i : ℕ) (before after : List (List ℕ)) (net : List ℕ) → 0 < length net → IsStrictlyIncreasing net → All (Contains (judged_points t)) net →
       AllPairs Disjoint (before ++ net ∷ after) → faults_behind i before net ≡ []
   net_none i before after net some up inside apart =
       ap (λ (b : Bool). cond b (EmptyNet i ∷ []) (flat_map (λ j. point_fault n (concat before ++ take j net) (get_or net j 0)) (points_below (length net)))) (ne_eqb (length net) 0 (λ e. omega arith))
       ∙ none_of_splits (λ (j : ℕ) (b : List ℕ) (p : ℕ). point_fault n (concat before ++ b) p) 0 net (λ b a p j e.
       let own : has net p ≡ true = subst (λ (ys : List ℕ). has ys p ≡ true) (sym e) (middle_has b a p) in
-      point_none n (concat before ++ b) p (net_below n net inside p own) (λ h.
+      point_none n (concat before ++ b) p (net_below t net inside p own) (λ h.
       elim (has-append_cases p (concat before) b h) [
         | inl other ↦ elsewhere before after net p apart own other
         | inr again ↦ once b a p (subst IsStrictlyIncreasing e up) again
@@ -145,11 +163,46 @@ module _ {X : Type 0} (P : X → Type 0) where
   pub All-split : (xs before after : List X) (x : X) → xs ≡ before ++ x ∷ after → All P xs → P x
   All-split xs before after x e h = All-middle before after x (subst (All P) e h)
 
-pub nets_none : (t : NetTable) → IsNetTable t → all_faults t.points t.named ≡ []
-nets_none t ok =
-    none_of_splits (faults_behind t.points) [] t.named (λ before after net i e.
-    net_none t.points i before after net
-    (All-split (λ (x : List ℕ). 0 < length x) t.named before after net e ok.nonempty)
-    (All-split IsStrictlyIncreasing t.named before after net e ok.ascending)
-    (All-split (λ (x : List ℕ). All (Contains (judged_points t)) x) t.named before after net e ok.in_range)
-    (subst (AllPairs Disjoint) e ok.disjoint))
+module _ (t : NetTable) (ok : IsNetTable t) where
+  named_none : flat_map (net_faults t.points t.named) (points_below (length t.named)) ≡ []
+  named_none =
+      none_of_splits (faults_behind t) [] t.named (λ before after net i e.
+      net_none t i before after net
+      (All-split (λ (x : List ℕ). 0 < length x) t.named before after net e ok.nonempty)
+      (All-split IsStrictlyIncreasing t.named before after net e ok.ascending)
+      (All-split (λ (x : List ℕ). All (Contains (judged_points t)) x) t.named before after net e ok.in_range)
+      (subst (AllPairs Disjoint) e ok.disjoint))
+
+  -- an ignored point stands in no net
+  in_no_net : (p : ℕ) → has t.ignored p ≡ true → has (concat t.named) p ≡ true → ⊥
+  in_no_net p own h =
+      let place = concat_in t.named p h in
+      let other = net_other t (get_or t.named place.0 []) (ok.in_range place.0 [] place.1) p place.2 in
+      absurd (let e : false ≡ true = sym other ∙ own in cc)
+
+  ignored_none : flat_map (ignored_faults t.points t.named t.ignored) (points_below (length t.ignored)) ≡ []
+  ignored_none =
+      none_of_splits (λ (j : ℕ) (b : List ℕ) (p : ℕ). point_fault t.points (concat t.named ++ b) p) 0 t.ignored (λ b a p j e.
+      let own : has t.ignored p ≡ true = subst (λ (ys : List ℕ). has ys p ≡ true) (sym e) (middle_has b a p) in
+      point_none t.points (concat t.named ++ b) p (ignored_below t ok p own) (λ h.
+      elim (has-append_cases p (concat t.named) b h) [
+        | inl other ↦ in_no_net p own other
+        | inr again ↦ once b a p (subst IsStrictlyIncreasing e ok.ignored_ascending) again
+      ]))
+
+  -- some point is not ignored
+  some_judged : list_all (has t.ignored) (points_below t.points) ≡ false
+  some_judged =
+      let p = get_or (judged_points t) 0 0 in
+      let kept = In-filter_cases (λ q. not (has t.ignored q)) p (points_below t.points) (index-In 0 0 (judged_points t) ok.some_point) in
+      let place = In-index p (points_below t.points) kept.0 in
+      not_true (list_all (has t.ignored) (points_below t.points)) (λ all.
+      let passes : has t.ignored p ≡ true = subst (λ (q : ℕ). has t.ignored q ≡ true) (place.2 0) (all_pass (has t.ignored) (points_below t.points) place.0 0 all place.1) in
+      let e : not true ≡ true = ap not (sym passes) ∙ kept.1 in
+      cc)
+
+  pub nets_none : all_faults t.points t.named t.ignored ≡ []
+  nets_none =
+      let rest = flat_map (ignored_faults t.points t.named t.ignored) (points_below (length t.ignored)) in
+      none_in_both (flat_map (net_faults t.points t.named) (points_below (length t.named))) (rest ++ none_judged t.points t.ignored) named_none
+      (none_in_both rest (none_judged t.points t.ignored) ignored_none (ap (λ (b : Bool). cond b (NoneJudged ∷ []) []) some_judged))

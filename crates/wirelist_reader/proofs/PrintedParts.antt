@@ -1,5 +1,5 @@
 -- The components of a program's text have no fault.
-use Rattle.std.proofs.Common.{◌≡◌, ◌≢◌, inl, inr, ℕ, ◌+◌, ◌<◌, true, false, cond, List, [], ◌∷◌, ◌++◌, length, get_or, map, filter, All, AllPairs, refl, sym, ◌∙◌, ap, subst, arith, lt-ltb, ne_eqb}
+use Rattle.std.proofs.Common.{◌≡◌, ◌≢◌, inl, inr, ℕ, ◌+◌, ◌<◌, true, false, cond, List, [], ◌∷◌, ◌++◌, length, get_or, map, filter, All, AllPairs, refl, sym, ◌∙◌, ap, subst, arith, ne_eqb}
 use Rattle.std.specs.Prelude.{◌==◌}
 use Rattle.std.specs.List.{list_any}
 use Rattle.std.specs.Fmt.{decimal}
@@ -10,7 +10,7 @@ use Rattle.std.proofs.lemmas.List.Folds.{list_any_none}
 use Rattle.partition.specs.Classes.{points_below}
 use Rattle.partition.specs.NetTable.{NetTable, net_at}
 use Rattle.wirelist.specs.Canonical.{rows_of, resistor_row, diode_row}
-use Rattle.wirelist.specs.Clusters.{component_links}
+use Rattle.wirelist.specs.Clusters.{IsJudged, component_links}
 use Rattle.wirelist.specs.Programs.{IsProgram, SameLink}
 use Rattle.wirelist.specs.declared.program.Program.{Program}
 use Rattle.wirelist.specs.declared.refusal.WireRefusal.TheVariants as wire
@@ -47,7 +47,7 @@ module _ (t : NetTable) where
   component_none before part inside across apart =
       let own = fault_if (net_at t part.a == net_at t part.b) (wire.PartInsideNet part.record_number) in
       let other = fault_if (list_any (joins_same t part) before) (wire.SecondPart part.record_number) in
-      ap (λ b. cond b (own ++ other) (wire.PartPoint part.record_number ∷ [])) (and_both _ _ (lt-ltb part.a t.points inside.0) (lt-ltb part.b t.points inside.1))
+      ap (λ b. cond b (own ++ other) (wire.PartPoint part.record_number ∷ [])) (and_both _ _ inside.0 inside.1)
       ∙ ap (λ faults. faults ++ other) (fault_none (net_at t part.a == net_at t part.b) (wire.PartInsideNet part.record_number) (ne_eqb (net_at t part.a) (net_at t part.b) across))
       ∙ fault_none (list_any (joins_same t part) before) (wire.SecondPart part.record_number) apart
 
@@ -86,32 +86,33 @@ kind_points kind rows =
     let there : List ℕ = filter (λ i. is_kind kind (row_at rows i)) (points_below (length rows)) in
     map_same (λ (i : ℕ). ends_in (i + 1) (row_at rows i)) points_of (λ i. row_points (row_at rows i)) (λ i. refl) there ∙ places (is_kind kind) row_points [] rows
 
-abbrev BothBelow : ℕ → ℕ × ℕ → Type 0
-BothBelow n z = (z.0 < n) × (z.1 < n)
+abbrev BothJudged : NetTable → ℕ × ℕ → Type 0
+BothJudged t z = IsJudged t z.0 × IsJudged t z.1
 
-both_below : (n a b : ℕ) → a < 65536 → b < 65536 → a < n → b < n → BothBelow n (number (decimal a), number (decimal b))
-both_below n a b small_a small_b below_a below_b = (omega (arith, number_decimal a (omega arith)), omega (arith, number_decimal b (omega arith)))
+both_judged : (t : NetTable) (a b : ℕ) → a < 65536 → b < 65536 → IsJudged t a → IsJudged t b → BothJudged t (number (decimal a), number (decimal b))
+both_judged t a b small_a small_b judged_a judged_b =
+    (subst (IsJudged t) (sym (number_decimal a (omega arith))) judged_a, subst (IsJudged t) (sym (number_decimal b (omega arith))) judged_b)
 
 module _ (p : Program) (ok : IsProgram p) where
-  resistors_inside : All (λ part. BothBelow p.nets.points (points_of part)) (ends_of_kind Resistor (rows_of p))
+  resistors_inside : All (λ part. BothJudged p.nets (points_of part)) (ends_of_kind Resistor (rows_of p))
   resistors_inside =
-      all_from_map (BothBelow p.nets.points) points_of (ends_of_kind Resistor (rows_of p))
-      (subst (All (BothBelow p.nets.points)) (sym (kind_points Resistor (rows_of p) ∙ ap (map row_points) (resistor_rows p)))
-      (All-map (BothBelow p.nets.points) row_points (map resistor_row p.resistors)
-      (All-map (λ row. BothBelow p.nets.points (row_points row)) resistor_row p.resistors (λ k d l.
+      all_from_map (BothJudged p.nets) points_of (ends_of_kind Resistor (rows_of p))
+      (subst (All (BothJudged p.nets)) (sym (kind_points Resistor (rows_of p) ∙ ap (map row_points) (resistor_rows p)))
+      (All-map (BothJudged p.nets) row_points (map resistor_row p.resistors)
+      (All-map (λ row. BothJudged p.nets (row_points row)) resistor_row p.resistors (λ k d l.
       let small = resistors_small p ok k d l in
       let inside = ok.components.inside.resistors_in k d l in
-      both_below p.nets.points (get_or p.resistors k d).a (get_or p.resistors k d).b small.1.0 small.1.1 inside.0 inside.1))))
+      both_judged p.nets (get_or p.resistors k d).a (get_or p.resistors k d).b small.1.0 small.1.1 inside.0 inside.1))))
 
-  diodes_inside : All (λ part. BothBelow p.nets.points (points_of part)) (ends_of_kind Diode (rows_of p))
+  diodes_inside : All (λ part. BothJudged p.nets (points_of part)) (ends_of_kind Diode (rows_of p))
   diodes_inside =
-      all_from_map (BothBelow p.nets.points) points_of (ends_of_kind Diode (rows_of p))
-      (subst (All (BothBelow p.nets.points)) (sym (kind_points Diode (rows_of p) ∙ ap (map row_points) (diode_rows p)))
-      (All-map (BothBelow p.nets.points) row_points (map diode_row p.diodes)
-      (All-map (λ row. BothBelow p.nets.points (row_points row)) diode_row p.diodes (λ k d l.
+      all_from_map (BothJudged p.nets) points_of (ends_of_kind Diode (rows_of p))
+      (subst (All (BothJudged p.nets)) (sym (kind_points Diode (rows_of p) ∙ ap (map row_points) (diode_rows p)))
+      (All-map (BothJudged p.nets) row_points (map diode_row p.diodes)
+      (All-map (λ row. BothJudged p.nets (row_points row)) diode_row p.diodes (λ k d l.
       let small = diodes_small p ok k d l in
       let inside = ok.components.inside.diodes_in k d l in
-      both_below p.nets.points (get_or p.diodes k d).from (get_or p.diodes k d).to small.1.0 small.1.1 inside.0 inside.1))))
+      both_judged p.nets (get_or p.diodes k d).from (get_or p.diodes k d).to small.1.0 small.1.1 inside.0 inside.1))))
 
   ends_inside : All (LiesInside p.nets) (ends_of (rows_of p))
   ends_inside = All-append (LiesInside p.nets) (ends_of_kind Resistor (rows_of p)) (ends_of_kind Diode (rows_of p)) resistors_inside diodes_inside

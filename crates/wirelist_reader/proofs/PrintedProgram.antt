@@ -4,12 +4,11 @@ use Rattle.std.specs.Fmt.{decimal}
 use Rattle.std.proofs.lemmas.List.Elements.{All-cons, All-append, All-map, All-nil, All-tail}
 use Rattle.std.proofs.lemmas.List.Folds.{map_fixed}
 use Rattle.partition.specs.Names.{IsName}
-use Rattle.partition.specs.Classes.{points_below}
-use Rattle.partition.specs.NetTable.{NetTable}
+use Rattle.partition.specs.NetTable.{NetTable, IsNetTable, judged_points}
 use Rattle.partition.specs.NetFaults.{table_of}
-use Rattle.partition.proofs.NetLaws.{Contains-In}
-use Rattle.partition.proofs.KeptLemmas.{In-points_below}
-use Rattle.wirelist.specs.Canonical.{rows_of, part_row, points_row, net_row, resistor_row, diode_row, insulation_row, withstand_row, attempts_row, insulation_rows, withstand_rows}
+use Rattle.partition.proofs.Members.{In-has}
+use Rattle.partition.proofs.NetLaws.{Contains-In, index-In, judged-below}
+use Rattle.wirelist.specs.Canonical.{rows_of, part_row, points_row, net_row, ignore_row, ignore_rows, resistor_row, diode_row, insulation_row, withstand_row, attempts_row, insulation_rows, withstand_rows}
 use Rattle.wirelist.specs.Programs.{IsProgram, IsResistor, IsDiode, IsInsulation, IsWithstand}
 use Rattle.wirelist.specs.declared.program.Program.{Program}
 use Rattle.wirelist.specs.declared.program.Insulation as insulation
@@ -18,14 +17,14 @@ use Rattle.wirelist.specs.declared.parts.Resistor as resistor
 use Rattle.wirelist.specs.declared.parts.Diode as diode
 use Rattle.wirelist_rows.specs.Filled.{filled}
 use Rattle.wirelist_reader.specs.Kinds.{number}
-use Rattle.wirelist_reader.specs.Rows.{field_at, rows_of_kind, listed_nets, points_in, program_of, resistor_of, diode_of, insulation_of, withstand_of, attempts_of}
+use Rattle.wirelist_reader.specs.Rows.{field_at, row_at, rows_of_kind, listed_nets, listed_ignored, points_in, program_of, resistor_of, diode_of, insulation_of, withstand_of, attempts_of}
 use Rattle.wirelist_reader.specs.declared.kind.Kind.{Kind}
-use Rattle.wirelist_reader.specs.declared.kind.Kind.TheVariants.{Part, Points, Net, Resistor, Diode, Insulation, Withstand, Attempts}
+use Rattle.wirelist_reader.specs.declared.kind.Kind.TheVariants.{Part, Points, Net, Ignore, Resistor, Diode, Insulation, Withstand, Attempts}
 use Rattle.wirelist_reader.proofs.Numbers.{number_decimal}
 use Rattle.wirelist_reader.proofs.PrintedLists.{map_back, map_same, zip_first, zip_second}
-use Rattle.wirelist_reader.proofs.PrintedRows.{IsPrinted, filled_plain, part_printed, points_printed, net_printed, resistor_printed, diode_printed, insulation_printed, withstand_printed, attempts_printed}
+use Rattle.wirelist_reader.proofs.PrintedRows.{IsPrinted, filled_plain, part_printed, points_printed, net_printed, ignore_printed, resistor_printed, diode_printed, insulation_printed, withstand_printed, attempts_printed}
 use Rattle.wirelist_reader.proofs.PrintedNets.{table_back}
-use Rattle.wirelist_reader.proofs.PrintedKinds.{named_nets, later_rows, net_rows, resistor_rows, diode_rows, insulation_rows_are, withstand_rows_are, attempts_rows}
+use Rattle.wirelist_reader.proofs.PrintedKinds.{named_nets, later_rows, net_rows, ignore_rows_are, resistor_rows, diode_rows, insulation_rows_are, withstand_rows_are, attempts_rows}
 
 -- ---- the parts of a program, printed and read
 
@@ -86,6 +85,11 @@ nets_back names nets one small =
     ∙ ap (map (λ net. map number (map decimal net))) (zip_second names nets one)
     ∙ map_fixed (λ net. map number (map decimal net)) nets (λ k d l. points_back (get_or nets k d) (small k d l))
 
+-- the ignored points, printed and read
+ignored_back : (ps : List ℕ) → All (λ q. q < 65536) ps → map number (drop 1 (row_at (ignore_rows ps) 0)) ≡ ps
+ignored_back [] small = refl
+ignored_back (p ∷ ps) small = points_back (p ∷ ps) small
+
 -- ---- the program
 
 program_same : (make : List ℕ → ℕ → NetTable → List (List ℕ) → List resistor.Resistor → List diode.Diode → Option insulation.Insulation → Option withstand.Withstand → ℕ → Program)
@@ -94,14 +98,17 @@ program_same : (make : List ℕ → ℕ → NetTable → List (List ℕ) → Lis
 program_same make a k b l c m d n e o f q g r h s i t ha hb hc hd he hf hg hh hi = cc
 
 module _ (p : Program) (ok : IsProgram p) where
-  few : p.nets.points ≤ 1024
+  few : p.nets.points ≤ 4096
   few = ok.points
 
   pub small_nets : All (λ net. All (λ q. q < 65536) net) p.nets.named
   small_nets k d l j e m =
-      let inside = In-points_below p.nets.points _ (Contains-In _ (points_below p.nets.points) (ok.nets.in_range k d l j e m)) in
+      let inside = judged-below p.nets _ (In-has _ (judged_points p.nets) (Contains-In _ (judged_points p.nets) (ok.nets.in_range k d l j e m))) in
       let size = few in
       omega arith
+
+  pub small_ignored : All (λ q. q < 65536) p.nets.ignored
+  small_ignored k d l = let inside = ok.nets.ignored_in_range k d l in let size = few in omega arith
 
   pub listed_are : listed_nets (rows_of p) ≡ p.nets.named
   listed_are = ap (map (λ row. map number (drop 2 row))) (net_rows p) ∙ nets_back p.names p.nets.named ok.one_each small_nets
@@ -109,8 +116,15 @@ module _ (p : Program) (ok : IsProgram p) where
   pub points_are : points_in (rows_of p) ≡ p.nets.points
   points_are = let size = few in number_decimal p.nets.points (omega arith)
 
-  nets_are : table_of (points_in (rows_of p)) (listed_nets (rows_of p)) ≡ p.nets
-  nets_are = ap (λ n. table_of n (listed_nets (rows_of p))) points_are ∙ ap (table_of p.nets.points) listed_are ∙ table_back p.nets ok.nets
+  pub ignored_are : listed_ignored (rows_of p) ≡ p.nets.ignored
+  ignored_are = ap (λ rows. map number (drop 1 (row_at rows 0))) (ignore_rows_are p) ∙ ignored_back p.nets.ignored small_ignored
+
+  nets_are : table_of (points_in (rows_of p)) (listed_nets (rows_of p)) (listed_ignored (rows_of p)) ≡ p.nets
+  nets_are =
+      ap (λ n. table_of n (listed_nets (rows_of p)) (listed_ignored (rows_of p))) points_are
+      ∙ ap (λ nets. table_of p.nets.points nets (listed_ignored (rows_of p))) listed_are
+      ∙ ap (table_of p.nets.points p.nets.named) ignored_are
+      ∙ table_back p.nets ok.nets
 
   names_are : map (λ row. field_at row 1) (rows_of_kind Net (rows_of p)) ≡ p.names
   names_are =
@@ -121,16 +135,16 @@ module _ (p : Program) (ok : IsProgram p) where
   pub resistors_small : All (λ (r : resistor.Resistor). IsResistor r × ((r.a < 65536) × (r.b < 65536))) p.resistors
   resistors_small k d l =
       let inside = ok.components.inside.resistors_in k d l in
-      let a = inside.0 in
-      let b = inside.1 in
+      let a = judged-below p.nets (get_or p.resistors k d).a inside.0 in
+      let b = judged-below p.nets (get_or p.resistors k d).b inside.1 in
       let size = few in
       (ok.components.resistors k d l, (omega arith, omega arith))
 
   pub diodes_small : All (λ (x : diode.Diode). IsDiode x × ((x.from < 65536) × (x.to < 65536))) p.diodes
   diodes_small k d l =
       let inside = ok.components.inside.diodes_in k d l in
-      let a = inside.0 in
-      let b = inside.1 in
+      let a = judged-below p.nets (get_or p.diodes k d).from inside.0 in
+      let b = judged-below p.nets (get_or p.diodes k d).to inside.1 in
       let size = few in
       (ok.components.diodes k d l, (omega arith, omega arith))
 
@@ -155,7 +169,7 @@ module _ (p : Program) (ok : IsProgram p) where
   printed_gives_back =
       program_same (λ a b c d e f g h i. record { part = a; revision = b; nets = c; names = d; resistors = e; diodes = f; insulation = g; withstand = h; attempts = i })
       p.part p.part (number (decimal p.revision)) p.revision
-      (table_of (points_in (rows_of p)) (listed_nets (rows_of p))) p.nets
+      (table_of (points_in (rows_of p)) (listed_nets (rows_of p)) (listed_ignored (rows_of p))) p.nets
       (map (λ row. field_at row 1) (rows_of_kind Net (rows_of p))) p.names
       (map resistor_of (rows_of_kind Resistor (rows_of p))) p.resistors
       (map diode_of (rows_of_kind Diode (rows_of p))) p.diodes
@@ -175,14 +189,19 @@ zip_all P Q (x ∷ xs) [] h k = All-nil (λ z. P z.0 × Q z.1)
 zip_all P Q (x ∷ xs) (y ∷ ys) h k =
     All-cons (λ z. P z.0 × Q z.1) (x, y) (zip xs ys) (h 0 x (omega arith), k 0 y (omega arith)) (zip_all P Q xs ys (All-tail P x xs h) (All-tail Q y ys k))
 
-six_all : {X : Type 0} (P : X → Type 0) (a b c d e f : List X) → All P a → All P b → All P c → All P d → All P e → All P f → All P (a ++ (b ++ (c ++ (d ++ (e ++ f)))))
-six_all P a b c d e f ha hb hc hd he hf =
-    All-append P a (b ++ (c ++ (d ++ (e ++ f)))) ha
-    (All-append P b (c ++ (d ++ (e ++ f))) hb (All-append P c (d ++ (e ++ f)) hc (All-append P d (e ++ f) hd (All-append P e f he hf))))
+seven_all : {X : Type 0} (P : X → Type 0) (a b c d e f g : List X) → All P a → All P b → All P c → All P d → All P e → All P f → All P g → All P (a ++ (b ++ (c ++ (d ++ (e ++ (f ++ g))))))
+seven_all P a b c d e f g ha hb hc hd he hf hg =
+    All-append P a (b ++ (c ++ (d ++ (e ++ (f ++ g))))) ha
+    (All-append P b (c ++ (d ++ (e ++ (f ++ g)))) hb
+    (All-append P c (d ++ (e ++ (f ++ g))) hc (All-append P d (e ++ (f ++ g)) hd (All-append P e (f ++ g) he (All-append P f g hf hg)))))
 
 -- a row of some kind
 abbrev pub IsOfSomeKind : List (List ℕ) → Type 0
 IsOfSomeKind row = (kind : Kind) × IsPrinted kind row
+
+ignored_all : (ps : List ℕ) → All (λ q. q < 65536) ps → All IsOfSomeKind (ignore_rows ps)
+ignored_all [] small = All-nil IsOfSomeKind
+ignored_all (p ∷ ps) small = All-cons IsOfSomeKind (ignore_row (p ∷ ps)) [] (Ignore, ignore_printed p ps small) (All-nil IsOfSomeKind)
 
 insulation_all : (o : Option insulation.Insulation) → IfSome o IsInsulation → All IsOfSomeKind (insulation_rows o)
 insulation_all None h = All-nil IsOfSomeKind
@@ -191,6 +210,9 @@ insulation_all (Some i) h = All-cons IsOfSomeKind (insulation_row i) [] (Insulat
 withstand_all : (o : Option withstand.Withstand) → IfSome o IsWithstand → All IsOfSomeKind (withstand_rows o)
 withstand_all None h = All-nil IsOfSomeKind
 withstand_all (Some w) h = All-cons IsOfSomeKind (withstand_row w) [] (Withstand, withstand_printed w h) (All-nil IsOfSomeKind)
+
+some_below : (t : NetTable) → IsNetTable t → 0 < t.points
+some_below t ok = let inside = judged-below t (get_or (judged_points t) 0 0) (In-has _ (judged_points t) (index-In 0 0 (judged_points t) ok.some_point)) in omega arith
 
 module _ (p : Program) (ok : IsProgram p) where
   nets_all : All IsOfSomeKind (map net_row (named_nets p))
@@ -207,12 +229,13 @@ module _ (p : Program) (ok : IsProgram p) where
 
   pub rows_printed : All IsOfSomeKind (rows_of p)
   rows_printed =
-      let some = ok.nets.some_point in
+      let some : 0 < p.nets.points = some_below p.nets ok.nets in
       let points = points_row p.nets.points in
       let later = later_rows p in
       let all : All IsOfSomeKind later =
-      six_all IsOfSomeKind (map net_row (named_nets p)) (map resistor_row p.resistors) (map diode_row p.diodes) (insulation_rows p.insulation) (withstand_rows p.withstand) (attempts_row p.attempts ∷ [])
-      nets_all resistors_all diodes_all (insulation_all p.insulation ok.insulation) (withstand_all p.withstand ok.withstand)
+      seven_all IsOfSomeKind (map net_row (named_nets p)) (ignore_rows p.nets.ignored) (map resistor_row p.resistors) (map diode_row p.diodes) (insulation_rows p.insulation) (withstand_rows p.withstand)
+      (attempts_row p.attempts ∷ [])
+      nets_all (ignored_all p.nets.ignored (small_ignored p ok)) resistors_all diodes_all (insulation_all p.insulation ok.insulation) (withstand_all p.withstand ok.withstand)
       (All-cons IsOfSomeKind (attempts_row p.attempts) [] (Attempts, attempts_printed p.attempts ok.attempts) (All-nil IsOfSomeKind)) in
       All-cons IsOfSomeKind (part_row p.part p.revision) (points ∷ later) (Part, part_printed p.part p.revision ok.part ok.revision)
       (All-cons IsOfSomeKind points later (Points, points_printed p.nets.points (omega arith) ok.points) all)

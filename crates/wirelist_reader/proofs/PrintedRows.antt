@@ -1,5 +1,5 @@
 -- The rows of a program's text, each by itself: its fields are not empty, are printable, and are what they may be.
-use Rattle.std.proofs.Common.{◌≡◌, ℕ, zero, suc, ◌+◌, ◌-◌, ◌<◌, ◌≤◌, ◌^◌, ◌%◌, Bool, true, false, not, List, [], ◌∷◌, length, map, All, codes, refl, ◌∙◌, ap, arith, eqb, le-leb, le-ltb, eq-eqb, cond}
+use Rattle.std.proofs.Common.{◌≡◌, ℕ, zero, suc, ◌+◌, ◌-◌, ◌<◌, ◌≤◌, ◌^◌, ◌%◌, Bool, true, false, not, List, [], ◌∷◌, Some, length, map, All, codes, refl, ◌∙◌, ap, arith, eqb, le-leb, le-ltb, eq-eqb, cond}
 use Rattle.std.specs.Prelude.{◌&&◌, ◌==◌, nat_le, nat_lt, slice_get, filter}
 use Rattle.std.specs.List.{AllByRecursion, list_all, range_with_len}
 use Rattle.std.specs.Fmt.{decimal}
@@ -10,8 +10,9 @@ use Rattle.std.proofs.lemmas.Bool.Decides.{nat_tests}
 use Rattle.std.proofs.lemmas.Str.Parse.{digit_from_value}
 use Rattle.std.proofs.lemmas.Fmt.{decimal_is_IsNumeral}
 use Rattle.partition.specs.Names.{IsName, is_name_byte}
-use Rattle.wirelist.specs.Canonical.{part_row, points_row, net_row, resistor_row, diode_row, insulation_row, withstand_row, attempts_row}
-use Rattle.wirelist.specs.Programs.{IsWithin, IsResistor, IsDiode, IsInsulation, IsWithstand}
+use Rattle.wirelist.specs.Canonical.{part_row, points_row, net_row, ignore_row, resistor_row, diode_row, insulation_row, withstand_row, attempts_row}
+use Rattle.wirelist.specs.Numbers.{IsWithin}
+use Rattle.wirelist.specs.Programs.{IsResistor, IsDiode, IsInsulation, IsWithstand}
 use Rattle.wirelist.specs.declared.program.Insulation as insulation
 use Rattle.wirelist.specs.declared.program.Withstand as withstand
 use Rattle.wirelist.specs.declared.parts.Resistor as resistor
@@ -21,7 +22,7 @@ use Rattle.wirelist_reader.specs.Kinds.{kind_word, shape_at, fits, is_number, nu
 use Rattle.wirelist_reader.specs.Rows.{field_at, is_component, number_at}
 use Rattle.wirelist_reader.specs.Refusals.{is_text}
 use Rattle.wirelist_reader.specs.declared.kind.Kind.{Kind}
-use Rattle.wirelist_reader.specs.declared.kind.Kind.TheVariants.{Part, Points, Net, Resistor, Diode, Insulation, Withstand, Attempts}
+use Rattle.wirelist_reader.specs.declared.kind.Kind.TheVariants.{Part, Points, Net, Ignore, Resistor, Diode, Insulation, Withstand, Attempts}
 use Rattle.wirelist_reader.specs.declared.kind.Shape.TheVariants.{MorePoints}
 use Rattle.wirelist_reader.proofs.Numbers.{and_left, and_right, and_both, number_decimal, is_number_decimal}
 use Rattle.wirelist_reader.proofs.PrintedLists.{filter_range_none}
@@ -105,6 +106,7 @@ word_plain : (kind : Kind) → IsPlain (kind_word kind)
 word_plain Part = (omega arith, refl)
 word_plain Points = (omega arith, refl)
 word_plain Net = (omega arith, refl)
+word_plain Ignore = (omega arith, refl)
 word_plain Resistor = (omega arith, refl)
 word_plain Diode = (omega arith, refl)
 word_plain Insulation = (omega arith, refl)
@@ -122,11 +124,11 @@ part_printed name revision named within =
       window = refl;
     }
 
-pub points_printed : (n : ℕ) → 1 ≤ n → n ≤ 1024 → IsPrinted Points (points_row n)
+pub points_printed : (n : ℕ) → 1 ≤ n → n ≤ 4096 → IsPrinted Points (points_row n)
 points_printed n low high = record {
   word = refl;
   plain = row_plain (points_row n) (word_plain Points, (decimal_plain n (omega arith), tt));
-  fit = row_fits Points (points_row n) (is_number_decimal 1 1024 n (omega arith) low high, (refl, tt));
+  fit = row_fits Points (points_row n) (is_number_decimal 1 4096 n (omega arith) low high, (refl, tt));
   window = refl;
 }
 
@@ -247,21 +249,47 @@ points_fit [] i h = refl
 points_fit (p ∷ ps) zero h = let small : p < 65536 = h 0 p (omega arith) in is_number_decimal 0 65535 p (omega arith) (omega arith) (omega arith)
 points_fit (p ∷ ps) (suc i) h = points_fit ps i (All-tail (λ q. q < 65536) p ps h)
 
-later_place : (i : ℕ) → shape_at Net (suc (suc i)) ≡ MorePoints
-later_place i = let e : suc (suc i) - 1 ≡ suc i = omega arith in rw e refl
+later_net : (i : ℕ) → shape_at Net (suc (suc i)) ≡ MorePoints
+later_net i = let e : suc (suc i) - 1 ≡ suc i = omega arith in rw e refl
+
+later_ignored : (i : ℕ) → shape_at Ignore (suc (suc i)) ≡ MorePoints
+later_ignored i = let e : suc (suc i) - 1 ≡ suc i = omega arith in rw e refl
+
+-- points behind the second field of a row of a kind that goes on with points
+module _ (kind : Kind) (later : (i : ℕ) → shape_at kind (suc (suc i)) ≡ MorePoints) (word first : List ℕ) (ps : List ℕ) (small : All (λ p. p < 65536) ps)
+    (fit : fits (shape_at kind 1) (Some first) ≡ true) where
+  abbrev row : List (List ℕ)
+  row = word ∷ first ∷ map decimal ps
+
+  abbrev test : ℕ → Bool
+  test place = not (fits (shape_at kind place) (slice_get row place))
+
+  rest_fit : filter test (range_with_len 2 (suc (length (map decimal ps)))) ≡ []
+  rest_fit =
+      filter_range_none test 2 (suc (length (map decimal ps))) (λ i.
+      let e : 2 + i ≡ suc (suc i) = omega arith in
+      ap test e ∙ ap (λ shape. not (fits shape (slice_get (map decimal ps) i))) (later i) ∙ ap not (points_fit ps i small))
+
+  points_row_fits : bad_fields kind row ≡ []
+  points_row_fits =
+      ap (λ b. cond (not b) (1 ∷ filter test (range_with_len 2 (suc (length (map decimal ps))))) (filter test (range_with_len 2 (suc (length (map decimal ps)))))) fit ∙ rest_fit
 
 pub net_printed : (net : List ℕ × List ℕ) → IsName net.0 → All (λ p. p < 65536) net.1 → IsPrinted Net (net_row net)
-net_printed net named small =
-    let row = net_row net in
-    let test : ℕ → Bool = λ place. not (fits (shape_at Net place) (slice_get row place)) in
-    let more : filter test (range_with_len 2 (suc (length (map decimal net.1)))) ≡ [] =
-    filter_range_none test 2 (suc (length (map decimal net.1))) (λ i.
-    let e : 2 + i ≡ suc (suc i) = omega arith in
-    ap test e ∙ ap (λ shape. not (fits shape (slice_get (map decimal net.1) i))) (later_place i) ∙ ap not (points_fit net.1 i small)) in
+net_printed net named small = record {
+  word = refl;
+  plain = All-cons IsPlain (codes "net") (net.0 ∷ map decimal net.1) (word_plain Net)
+      (All-cons IsPlain net.0 (map decimal net.1) (name_plain net.0 named) (points_plain net.1 small));
+  fit = points_row_fits Net later_net (codes "net") net.0 net.1 small named;
+  window = refl;
+}
+
+pub ignore_printed : (p : ℕ) (ps : List ℕ) → All (λ q. q < 65536) (p ∷ ps) → IsPrinted Ignore (ignore_row (p ∷ ps))
+ignore_printed p ps small =
+    let first : p < 65536 = small 0 p (omega arith) in
     record {
       word = refl;
-      plain = All-cons IsPlain (codes "net") (net.0 ∷ map decimal net.1) (word_plain Net)
-          (All-cons IsPlain net.0 (map decimal net.1) (name_plain net.0 named) (points_plain net.1 small));
-      fit = ap (λ b. cond (not b) (1 ∷ filter test (range_with_len 2 (suc (length (map decimal net.1))))) (filter test (range_with_len 2 (suc (length (map decimal net.1)))))) named ∙ more;
+      plain = All-cons IsPlain (codes "ignore") (map decimal (p ∷ ps)) (word_plain Ignore) (points_plain (p ∷ ps) small);
+      fit = points_row_fits Ignore later_ignored (codes "ignore") (decimal p) ps (All-tail (λ q. q < 65536) p ps small)
+          (is_number_decimal 0 65535 p (omega arith) (omega arith) (omega arith));
       window = refl;
     }

@@ -11,7 +11,7 @@ use Rattle.wirelist.specs.declared.refusal.WireRefusal.{WireRefusal}
 use Rattle.wirelist.specs.declared.refusal.WireRefusal.TheVariants as wire
 use Rattle.wirelist_reader.specs.Reading.{told}
 use Rattle.wirelist_reader.specs.Refusals.{FindsOrMemory, cluster_faults, head_faults, most_bytes, net_faults, part_faults, refusals, rows_refusals}
-use Rattle.wirelist_reader.specs.Rows.{ends_of, first_of, is_kind, rows_of_kind, points_in, listed_nets, program_of}
+use Rattle.wirelist_reader.specs.Rows.{ends_of, first_of, is_kind, rows_of_kind, points_in, listed_nets, listed_ignored, program_of}
 use Rattle.wirelist_reader.specs.declared.parts.PartEnds.{PartEnds}
 use Rattle.wirelist_reader.specs.declared.kind.Kind.{Kind}
 use Rattle.wirelist_reader.specs.declared.kind.Kind.TheVariants.{Part, Points}
@@ -71,25 +71,30 @@ none_of_map : (faults : List NetsRefusal) → slice_get faults 0 ≡ None → ma
 none_of_map [] is = refl
 none_of_map (x ∷ xs) is = cc
 
-pub nets_faultless : (rows : List (List (List ℕ))) (n : ℕ) (lists : List (List ℕ)) → n ≡ points_in rows → lists ≡ listed_nets rows → first_fault n lists ≡ None → net_faults rows ≡ []
-nets_faultless rows n lists points_are lists_are none =
-    none_of_map (all_faults (points_in rows) (listed_nets rows)) (ap (λ (m : ℕ). first_fault m (listed_nets rows)) (sym points_are) ∙ ap (first_fault n) (sym lists_are) ∙ none)
-
 told_first : (faults : List NetsRefusal) (e : NetsRefusal) → (e ≡ nets.Memory) ⊎ (slice_get faults 0 ≡ Some e) → (told e ≡ wire.Memory) ⊎ (slice_get (map wire.Nets faults) 0 ≡ Some (told e))
 told_first faults e (inl memory) = inl (rw memory refl)
 told_first faults nets.Memory (inr first) = inl refl
 told_first faults (nets.OutOfRange p) (inr first) = inr (first_of_map faults (nets.OutOfRange p) first)
 told_first faults (nets.Twice p) (inr first) = inr (first_of_map faults (nets.Twice p) first)
 told_first faults (nets.EmptyNet i) (inr first) = inr (first_of_map faults (nets.EmptyNet i) first)
+told_first faults nets.NoneJudged (inr first) = inr (first_of_map faults nets.NoneJudged first)
 
-pub nets_refused : (rows : List (List (List ℕ))) (n : ℕ) (lists : List (List ℕ)) (e : NetsRefusal) (answer : WireRefusal) → n ≡ points_in rows → lists ≡ listed_nets rows → answer ≡ told e
-    → (e ≡ nets.Memory) ⊎ (first_fault n lists ≡ Some e) → (answer ≡ wire.Memory) ⊎ (slice_get (net_faults rows) 0 ≡ Some answer)
-nets_refused rows n lists e answer points_are lists_are is which =
-    rw is (told_first (all_faults (points_in rows) (listed_nets rows)) e (moved which))
-  where
-    moved : (e ≡ nets.Memory) ⊎ (first_fault n lists ≡ Some e) → (e ≡ nets.Memory) ⊎ (first_fault (points_in rows) (listed_nets rows) ≡ Some e)
-    moved (inl memory) = inl memory
-    moved (inr first) = inr (ap (λ (m : ℕ). first_fault m (listed_nets rows)) (sym points_are) ∙ ap (first_fault n) (sym lists_are) ∙ first)
+module _ (rows : List (List (List ℕ))) (n : ℕ) (lists : List (List ℕ)) (ignored : List ℕ) (points_are : n ≡ points_in rows) (lists_are : lists ≡ listed_nets rows) (ignored_are : ignored ≡ listed_ignored rows) where
+  the_same : all_faults n lists ignored ≡ all_faults (points_in rows) (listed_nets rows) (listed_ignored rows)
+  the_same =
+      ap (λ (m : ℕ). all_faults m lists ignored) points_are
+      ∙ ap (λ (ls : List (List ℕ)). all_faults (points_in rows) ls ignored) lists_are
+      ∙ ap (all_faults (points_in rows) (listed_nets rows)) ignored_are
+
+  pub nets_faultless : first_fault n lists ignored ≡ None → net_faults rows ≡ []
+  nets_faultless none =
+      none_of_map (all_faults (points_in rows) (listed_nets rows) (listed_ignored rows)) (ap (λ (faults : List NetsRefusal). slice_get faults 0) (sym the_same) ∙ none)
+
+  pub nets_refused : (e : NetsRefusal) (answer : WireRefusal) → answer ≡ told e → (e ≡ nets.Memory) ⊎ (first_fault n lists ignored ≡ Some e)
+      → (answer ≡ wire.Memory) ⊎ (slice_get (net_faults rows) 0 ≡ Some answer)
+  nets_refused e answer is which =
+      rw is (told_first (all_faults (points_in rows) (listed_nets rows) (listed_ignored rows)) e
+      (subst (λ (faults : List NetsRefusal). (e ≡ nets.Memory) ⊎ (slice_get faults 0 ≡ Some e)) the_same which))
 
 -- the first row of a kind
 pub first_row_is : (kind : Kind) (rows : List (List (List ℕ))) (row : List (List ℕ)) → Some row ≡ slice_get (rows_of_kind kind rows) 0 → row ≡ first_of kind rows

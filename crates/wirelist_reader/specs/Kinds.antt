@@ -10,8 +10,9 @@ use Rattle.std.specs.List.{range_with_len}
 use Rattle.std.specs.Fmt.{decimal}
 use Rattle.std.specs.Str.Parse.{digits_value}
 use Rattle.partition.specs.Names.{is_name}
+use Rattle.wirelist.specs.Numbers.{points, point_words, revisions, milliohms, millivolts, insulation_volts, insulation_ticks, megohms, withstand_volts, withstand_ticks, nanoamps, attempts}
 use Rattle.wirelist_reader.specs.declared.kind.Kind.{Kind}
-use Rattle.wirelist_reader.specs.declared.kind.Kind.TheVariants.{Part, Points, Net, Resistor, Diode, Insulation, Withstand, Attempts}
+use Rattle.wirelist_reader.specs.declared.kind.Kind.TheVariants.{Part, Points, Net, Ignore, Resistor, Diode, Insulation, Withstand, Attempts}
 use Rattle.wirelist_reader.specs.declared.kind.Shape.{Shape}
 use Rattle.wirelist_reader.specs.declared.kind.Shape.TheVariants.{Name, Number, Volts, MorePoints, End}
 
@@ -20,6 +21,7 @@ abbrev pub kind_word : Kind → List ℕ
 kind_word Part = codes "part"
 kind_word Points = codes "points"
 kind_word Net = codes "net"
+kind_word Ignore = codes "ignore"
 kind_word Resistor = codes "resistor"
 kind_word Diode = codes "diode"
 kind_word Insulation = codes "insulation"
@@ -27,7 +29,7 @@ kind_word Withstand = codes "withstand"
 kind_word Attempts = codes "attempts"
 
 abbrev pub all_kinds : List Kind
-all_kinds = Part ∷ Points ∷ Net ∷ Resistor ∷ Diode ∷ Insulation ∷ Withstand ∷ Attempts ∷ []
+all_kinds = Part ∷ Points ∷ Net ∷ Ignore ∷ Resistor ∷ Diode ∷ Insulation ∷ Withstand ∷ Attempts ∷ []
 
 -- the kind that the word names
 abbrev pub kind_of : List ℕ → Option Kind
@@ -35,30 +37,26 @@ kind_of word = find (λ kind. bytes_eq word (kind_word kind)) all_kinds
 
 -- a point, as a word; whether the matrix has it is asked later
 abbrev pub point : Shape
-point = Number 0 65535
-
-abbrev pub milliohms : Shape
-milliohms = Number 10001 1000000000000
-
-abbrev pub millivolts : Shape
-millivolts = Number 1 5000
+point = Number point_words
 
 -- the fields after the first
 abbrev pub shapes_of : Kind → List Shape
-shapes_of Part = Name ∷ Number 1 999999 ∷ []
-shapes_of Points = Number 1 1024 ∷ []
+shapes_of Part = Name ∷ Number revisions ∷ []
+shapes_of Points = Number points ∷ []
 shapes_of Net = Name ∷ []
-shapes_of Resistor = Name ∷ point ∷ point ∷ milliohms ∷ milliohms ∷ []
-shapes_of Diode = Name ∷ point ∷ point ∷ millivolts ∷ millivolts ∷ []
-shapes_of Insulation = Volts 50 1000 ∷ Number 1 1200 ∷ Number 1 100000 ∷ []
-shapes_of Withstand = Volts 50 2000 ∷ Number 1 600 ∷ Number 1 10000000 ∷ []
-shapes_of Attempts = Number 1 9 ∷ []
+shapes_of Ignore = point ∷ []
+shapes_of Resistor = Name ∷ point ∷ point ∷ Number milliohms ∷ Number milliohms ∷ []
+shapes_of Diode = Name ∷ point ∷ point ∷ Number millivolts ∷ Number millivolts ∷ []
+shapes_of Insulation = Volts insulation_volts ∷ Number insulation_ticks ∷ Number megohms ∷ []
+shapes_of Withstand = Volts withstand_volts ∷ Number withstand_ticks ∷ Number nanoamps ∷ []
+shapes_of Attempts = Number attempts ∷ []
 
 -- what may follow these
 abbrev pub shape_after : Kind → Shape
 shape_after Part = End
 shape_after Points = End
 shape_after Net = MorePoints
+shape_after Ignore = MorePoints
 shape_after Resistor = End
 shape_after Diode = End
 shape_after Insulation = End
@@ -81,12 +79,12 @@ is_number low most field = bytes_eq field (decimal (number field)) && (nat_le lo
 abbrev pub fits : Shape → Option (List ℕ) → Bool
 fits Name None = false
 fits Name (Some field) = is_name field
-fits (Number low most) None = false
-fits (Number low most) (Some field) = is_number low most field
-fits (Volts low most) None = false
-fits (Volts low most) (Some field) = is_number low most field && (number field % 50 == 0)
+fits (Number range) None = false
+fits (Number range) (Some field) = is_number range.low range.most field
+fits (Volts range) None = false
+fits (Volts range) (Some field) = is_number range.low range.most field && (number field % 50 == 0)
 fits MorePoints None = true
-fits MorePoints (Some field) = is_number 0 65535 field
+fits MorePoints (Some field) = is_number point_words.low point_words.most field
 fits End None = true
 fits End (Some field) = false
 

@@ -4,19 +4,20 @@
 use Rattle.std.specs.Prelude.{is_some, ◌≡◌, ◌⊎◌, Result, Ok, Err, ℕ, ◌+◌, Bool, true, false, ◌&&◌, ◌||◌, ◌==◌, not, min, nat_lt, nat_le, bytes_eq, List, [], ◌∷◌, ◌++◌, Option, None, Some, length, take, filter, map, slice_get, slice_index_or, if◌then◌else◌}
 use Rattle.std.specs.List.{flat_map, list_any, list_all}
 use Rattle.wirelist_rows.specs.Filled.{rows_in}
-use Rattle.partition.specs.Classes.{points_below}
-use Rattle.partition.specs.NetTable.{NetTable, net_at}
+use Rattle.partition.specs.Classes.{points_below, has}
+use Rattle.partition.specs.NetTable.{NetTable, judged_points, net_at}
 use Rattle.partition.specs.NetFaults.{all_faults}
 use Rattle.wirelist.specs.Clusters.{cluster_count}
+use Rattle.wirelist.specs.Numbers.{points}
 use Rattle.wirelist.specs.Ranges.{most_parts, most_clusters}
 use Rattle.wirelist.specs.declared.program.Program.{Program}
 use Rattle.wirelist.specs.declared.refusal.WireRefusal.{WireRefusal}
 use Rattle.wirelist.specs.declared.refusal.WireRefusal.TheVariants as wire
 use Rattle.wirelist_reader.specs.Kinds.{kind_of, number, is_number, bad_fields}
-use Rattle.wirelist_reader.specs.Rows.{field_at, is_kind, is_named, is_component, row_at, number_at, points_in, listed_nets, ends_of, program_of}
+use Rattle.wirelist_reader.specs.Rows.{field_at, is_kind, is_named, is_component, row_at, number_at, points_in, listed_nets, listed_ignored, ends_of, program_of}
 use Rattle.wirelist_reader.specs.declared.parts.PartEnds.{PartEnds}
 use Rattle.wirelist_reader.specs.declared.kind.Kind.{Kind}
-use Rattle.wirelist_reader.specs.declared.kind.Kind.TheVariants.{Part, Points, Net, Resistor, Diode, Insulation, Withstand, Attempts}
+use Rattle.wirelist_reader.specs.declared.kind.Kind.TheVariants.{Part, Points, Net, Ignore, Resistor, Diode, Insulation, Withstand, Attempts}
 
 -- the greatest number of bytes
 abbrev pub most_bytes : ℕ
@@ -35,6 +36,7 @@ abbrev pub is_single : Kind → Bool
 is_single Part = true
 is_single Points = true
 is_single Net = false
+is_single Ignore = true
 is_single Resistor = false
 is_single Diode = false
 is_single Insulation = true
@@ -47,7 +49,7 @@ names_in rows = map (λ row. field_at row 1) (filter is_named rows)
 
 -- the field is the number of a `points` row, and is too great by less than 2^32
 abbrev pub is_too_many : List (List ℕ) → ℕ → Bool
-is_too_many row place = is_kind Points row && ((place == 1) && is_number 1025 4294967295 (field_at row 1))
+is_too_many row place = is_kind Points row && ((place == 1) && is_number (points.most + 1) 4294967295 (field_at row 1))
 
 -- a bad field of row n is told with its number, which is one more than its place; too many points are told as such
 abbrev pub bad_field : List (List ℕ) → ℕ → ℕ → WireRefusal
@@ -67,7 +69,8 @@ single_faults kind before n = fault_if (is_single kind && list_any (is_kind kind
 
 -- a name is given once
 abbrev pub name_faults : List (List (List ℕ)) → List (List ℕ) → ℕ → List WireRefusal
-name_faults before row n = fault_if (is_named row && list_any (bytes_eq (field_at row 1)) (names_in before)) (wire.SameName n)
+name_faults before row n =
+    fault_if (is_named row && list_any (bytes_eq (field_at row 1)) (names_in before)) (wire.SameName n)
 
 -- the least value of a window is not above the greatest
 abbrev pub window_faults : List (List ℕ) → ℕ → List WireRefusal
@@ -75,7 +78,8 @@ window_faults row n = fault_if (is_component row && nat_lt (number_at row 5) (nu
 
 -- components are 512 at most
 abbrev pub count_faults : List (List (List ℕ)) → List (List ℕ) → ℕ → List WireRefusal
-count_faults before row n = fault_if (is_component row && nat_le most_parts (length (filter is_component before))) (wire.TooManyParts n)
+count_faults before row n =
+    fault_if (is_component row && nat_le most_parts (length (filter is_component before))) (wire.TooManyParts n)
 
 -- the faults of a row whose fields are what they may be
 abbrev pub late_faults : List (List (List ℕ)) → List (List ℕ) → ℕ → List WireRefusal
@@ -102,11 +106,13 @@ joins_same t x y =
     ((net_at t x.a == net_at t y.a) && (net_at t x.b == net_at t y.b))
     || ((net_at t x.a == net_at t y.b) && (net_at t x.b == net_at t y.a))
 
--- The faults of a component, below those before it. It is told by the number of its record.
+-- The faults of a component, below those before it: an end that is no judged point, or what it has with the nets and with others.
+-- It is told by the number of its record.
 abbrev pub component_faults : NetTable → List PartEnds → PartEnds → List WireRefusal
 component_faults t before part =
-    if nat_lt part.a t.points && nat_lt part.b t.points
-    then fault_if (net_at t part.a == net_at t part.b) (wire.PartInsideNet part.record_number) ++ fault_if (list_any (joins_same t part) before) (wire.SecondPart part.record_number)
+    if has (judged_points t) part.a && has (judged_points t) part.b
+    then fault_if (net_at t part.a == net_at t part.b) (wire.PartInsideNet part.record_number)
+    ++ fault_if (list_any (joins_same t part) before) (wire.SecondPart part.record_number)
     else wire.PartPoint part.record_number ∷ []
 
 -- no component
@@ -117,7 +123,7 @@ no_ends = record { record_number = 0; a = 0; b = 0 }
 abbrev pub part_faults : NetTable → List PartEnds → List WireRefusal
 part_faults t parts = flat_map (λ c. component_faults t (take c parts) (slice_index_or parts c no_ends)) (points_below (length parts))
 
--- clusters that are too many to have their insulation tested
+-- clusters of judged points that are too many to have their insulation tested
 abbrev pub cluster_faults : Program → List WireRefusal
 cluster_faults p = fault_if (is_some p.insulation && nat_lt most_clusters (cluster_count p)) (wire.TooManyClusters (cluster_count p))
 
@@ -125,14 +131,17 @@ cluster_faults p = fault_if (is_some p.insulation && nat_lt most_clusters (clust
 abbrev pub head_faults : List (List (List ℕ)) → List WireRefusal
 head_faults rows = fault_if (not (list_any (is_kind Part) rows && list_any (is_kind Points) rows)) wire.NoPart
 
--- the nets are nets
+-- the nets are nets, the ignored points are points of none of them, and some point is judged
 abbrev pub net_faults : List (List (List ℕ)) → List WireRefusal
-net_faults rows = map wire.Nets (all_faults (points_in rows) (listed_nets rows))
+net_faults rows = map wire.Nets (all_faults (points_in rows) (listed_nets rows) (listed_ignored rows))
+
+-- the faults of the components, then of the clusters
+abbrev pub later_faults : List (List (List ℕ)) → List WireRefusal
+later_faults rows = part_faults (program_of rows).nets (ends_of rows) ++ cluster_faults (program_of rows)
 
 -- the faults of rows: of each by itself, that a row is missing, of the nets, of the components, of the clusters
 abbrev pub rows_refusals : List (List (List ℕ)) → List WireRefusal
-rows_refusals rows =
-    all_row_faults rows ++ (head_faults rows ++ (net_faults rows ++ (part_faults (program_of rows).nets (ends_of rows) ++ cluster_faults (program_of rows))))
+rows_refusals rows = all_row_faults rows ++ (head_faults rows ++ (net_faults rows ++ later_faults rows))
 
 -- The faults of a file. One that is too long is refused for that alone; a length above 2^32 - 1 is told as that.
 abbrev pub refusals : List ℕ → List WireRefusal

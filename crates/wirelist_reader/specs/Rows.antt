@@ -12,7 +12,7 @@ use Rattle.wirelist.specs.declared.parts.Diode as diode
 use Rattle.wirelist_reader.specs.Kinds.{kind_word, number}
 use Rattle.wirelist_reader.specs.declared.parts.PartEnds.{PartEnds}
 use Rattle.wirelist_reader.specs.declared.kind.Kind.{Kind}
-use Rattle.wirelist_reader.specs.declared.kind.Kind.TheVariants.{Part, Points, Net, Resistor, Diode, Insulation, Withstand, Attempts}
+use Rattle.wirelist_reader.specs.declared.kind.Kind.TheVariants.{Part, Points, Net, Ignore, Resistor, Diode, Insulation, Withstand, Attempts}
 
 abbrev pub row_at : List (List (List ℕ)) → ℕ → List (List ℕ)
 row_at rows i = slice_index_or rows i []
@@ -50,6 +50,10 @@ points_in rows = number_at (first_of Points rows) 1
 abbrev pub listed_nets : List (List (List ℕ)) → List (List ℕ)
 listed_nets rows = map (λ row. map number (drop 2 row)) (rows_of_kind Net rows)
 
+-- the points that are not judged, as listed
+abbrev pub listed_ignored : List (List (List ℕ)) → List ℕ
+listed_ignored rows = map number (drop 1 (first_of Ignore rows))
+
 abbrev pub resistor_of : List (List ℕ) → resistor.Resistor
 resistor_of row = record { name = field_at row 1; a = number_at row 2; b = number_at row 3; min = number_at row 4; max = number_at row 5 }
 
@@ -72,7 +76,7 @@ abbrev pub program_of : List (List (List ℕ)) → Program
 program_of rows = record {
   part = field_at (first_of Part rows) 1;
   revision = number_at (first_of Part rows) 2;
-  nets = table_of (points_in rows) (listed_nets rows);
+  nets = table_of (points_in rows) (listed_nets rows) (listed_ignored rows);
   names = map (λ row. field_at row 1) (rows_of_kind Net rows);
   resistors = map resistor_of (rows_of_kind Resistor rows);
   diodes = map diode_of (rows_of_kind Diode rows);

@@ -2,8 +2,9 @@
 
 ghost use Rattle.std.specs.Prelude.{◌≡◌, ◌≤◌, ◌<◌, ◌^◌, IsTrue, IfOk, IfSome, All, None, map, option_map, slice_get, drop};
 ghost use Rattle.wirelist_reader.specs.Kinds.{number};
-ghost use Rattle.wirelist_reader.specs.Reading.{IsFit};
-ghost use Rattle.wirelist_reader.specs.Rows.{attempts_of, diode_of, field_at, insulation_of, is_kind, listed_nets, number_at, resistor_of, rows_of_kind, withstand_of};
+ghost use Rattle.wirelist_reader.specs.Reading.{ArePoints, IsFit};
+ghost use Rattle.wirelist_reader.specs.Rows.{field_at, is_kind, listed_ignored, listed_nets, number_at, rows_of_kind};
+ghost use Rattle.wirelist_reader.specs.Rows.{attempts_of, diode_of, insulation_of, resistor_of, withstand_of};
 ghost use Rattle.wirelist_reader.specs.declared.kind.Kind.TheVariants as kinds;
 
 use crate::field::{name_at, number_at, point_at};
@@ -11,6 +12,10 @@ use crate::kind::{Kind, is_kind};
 use base::Memory;
 use partition::{NetLists, PointList};
 use std::alloc::Global;
+use wirelist::ranges::{
+    ATTEMPTS, INSULATION_TICKS, INSULATION_VOLTS, MEGOHMS, MILLIOHMS, MILLIVOLTS, NANOAMPS,
+    WITHSTAND_TICKS, WITHSTAND_VOLTS,
+};
 use wirelist::{Diode, Diodes, Insulation, Names, Resistor, Resistors, Withstand};
 use wirelist_rows::Row;
 
@@ -34,20 +39,30 @@ pub(crate) fn listed_nets(alloc: Global, rows: &[Row]) -> Result<NetLists, Memor
     let mut lists = NetLists::new(alloc);
     for row in rows {
         if is_kind(row, Kind::Net) {
-            lists.push(listed_points(alloc, row)?)?;
+            lists.push(points_from(alloc, row, 2)?)?;
         }
     }
     Ok(lists)
 }
 
-/// The points of a net, as listed.
-fn listed_points(alloc: Global, row: &Row) -> Result<PointList, Memory>
-    requires fit { IsFit row.now }
-    requires net { IsTrue (is_kind kinds.Net row.now) }
-    ensures { IfOk result (λ list. list ≡ map number (drop 2 row.now)) }
+/// The points that are not judged, as listed.
+pub(crate) fn listed_ignored(alloc: Global, rows: &[Row]) -> Result<PointList, Memory>
+    requires { All IsFit rows.now }
+    ensures { IfOk result (λ list. list ≡ listed_ignored rows.now) }
+{
+    match first_of(rows, Kind::Ignore) {
+        Some(row) => points_from(alloc, row, 1),
+        None => Ok(PointList::new(alloc)),
+    }
+}
+
+/// The points that the fields of a row from a place on are.
+fn points_from(alloc: Global, row: &Row, first: usize) -> Result<PointList, Memory>
+    requires { ArePoints first row.now }
+    ensures { IfOk result (λ list. list ≡ map number (drop first row.now)) }
 {
     let mut list = PointList::new(alloc);
-    for place in 2..row.len() {
+    for place in first..row.len() {
         list.push(point_at(row, place))?;
     }
     Ok(list)
@@ -105,8 +120,8 @@ fn resistor(row: &Row) -> Resistor
         name: name_at(row, 1),
         a: point_at(row, 2),
         b: point_at(row, 3),
-        min: number_at(row, 4, 10_001, 1_000_000_000_000),
-        max: number_at(row, 5, 10_001, 1_000_000_000_000),
+        min: number_at(row, 4, MILLIOHMS),
+        max: number_at(row, 5, MILLIOHMS),
     }
 }
 
@@ -120,8 +135,8 @@ fn diode(row: &Row) -> Diode
         name: name_at(row, 1),
         from: point_at(row, 2),
         to: point_at(row, 3),
-        min: number_at(row, 4, 1, 5_000) as u32,
-        max: number_at(row, 5, 1, 5_000) as u32,
+        min: number_at(row, 4, MILLIVOLTS) as u32,
+        max: number_at(row, 5, MILLIVOLTS) as u32,
     }
 }
 
@@ -132,9 +147,9 @@ pub(crate) fn insulation(rows: &[Row]) -> Option<Insulation>
 {
     let row = first_of(rows, Kind::Insulation)?;
     Some(Insulation {
-        volts: number_at(row, 1, 50, 1_000) as u16,
-        ticks: number_at(row, 2, 1, 1_200) as u16,
-        megohms: number_at(row, 3, 1, 100_000) as u32,
+        volts: number_at(row, 1, INSULATION_VOLTS) as u16,
+        ticks: number_at(row, 2, INSULATION_TICKS) as u16,
+        megohms: number_at(row, 3, MEGOHMS) as u32,
     })
 }
 
@@ -145,9 +160,9 @@ pub(crate) fn withstand(rows: &[Row]) -> Option<Withstand>
 {
     let row = first_of(rows, Kind::Withstand)?;
     Some(Withstand {
-        volts: number_at(row, 1, 50, 2_000) as u16,
-        ticks: number_at(row, 2, 1, 600) as u16,
-        nanoamps: number_at(row, 3, 1, 10_000_000) as u32,
+        volts: number_at(row, 1, WITHSTAND_VOLTS) as u16,
+        ticks: number_at(row, 2, WITHSTAND_TICKS) as u16,
+        nanoamps: number_at(row, 3, NANOAMPS) as u32,
     })
 }
 
@@ -157,7 +172,7 @@ pub(crate) fn attempts(rows: &[Row]) -> u8
     ensures { result ≡ attempts_of (slice_get (rows_of_kind kinds.Attempts rows.now) 0) }
 {
     match first_of(rows, Kind::Attempts) {
-        Some(row) => number_at(row, 1, 1, 9) as u8,
+        Some(row) => number_at(row, 1, ATTEMPTS) as u8,
         None => 3,
     }
 }

@@ -14,6 +14,7 @@ use crate::seen::Seen;
 use lines::read_number;
 use std::alloc::Global;
 use wirelist::WireRefusal;
+use wirelist::ranges::POINTS;
 use wirelist_rows::Row;
 
 /// Finds the first fault of the rows, each below those before it.
@@ -105,7 +106,7 @@ fn bad_field(row: &Row, number: u32, place: usize) -> WireRefusal
     ensures { result ≡ bad_field row.now number place }
 {
     if place == 1 && is_kind(row, Kind::Points) {
-        if let Some(points) = read_number(row.field(1), 1_025, 4_294_967_295) {
+        if let Some(points) = read_number(row.field(1), POINTS.most + 1, 4_294_967_295) {
             return WireRefusal::TooManyPoints(points as u32);
         }
     }

@@ -2,12 +2,14 @@
 
 ghost use Rattle.std.specs.Prelude.{◌≡◌, ◌≤◌, ◌<◌, ◌^◌, ◌+◌, ◌-◌, ◌%◌, ◌==◌, ◌&&◌, length, IsTrue, IfSome, option_map, slice_get};
 ghost use Rattle.partition.specs.Names.{IsName};
+ghost use Rattle.wirelist.specs.Numbers.{point_words};
 ghost use Rattle.wirelist_reader.specs.Kinds.{number, is_number, fits as fits_shape, bad_fields};
 ghost use Rattle.wirelist_reader.specs.Rows.{field_at, number_at};
 
 use crate::kind::{Kind, Shape, shape_at};
 use lines::read_number;
 use partition::{Name, Point};
+use wirelist::ranges::{NumberRange, POINT_WORDS};
 use wirelist_rows::Row;
 
 /// The first place of a field that is missing, surplus, or not what it may be.
@@ -31,9 +33,9 @@ fn fits(shape: Shape, field: Option<&[u8]>) -> bool
 {
     match (shape, field) {
         (Shape::Name, Some(field)) => Name::read(field).is_some(),
-        (Shape::Number { low, most }, Some(field)) => is_number(field, low, most),
-        (Shape::Volts { low, most }, Some(field)) => are_volts(field, low, most),
-        (Shape::MorePoints, Some(field)) => is_number(field, 0, 65_535),
+        (Shape::Number(range), Some(field)) => is_number(field, range.low, range.most),
+        (Shape::Volts(range), Some(field)) => are_volts(field, range.low, range.most),
+        (Shape::MorePoints, Some(field)) => is_number(field, POINT_WORDS.low, POINT_WORDS.most),
         (Shape::MorePoints | Shape::End, None) => true,
         _ => false,
     }
@@ -59,8 +61,18 @@ fn are_volts(field: &[u8], low: u64, most: u64) -> bool
     }
 }
 
-/// The number that a field is.
-pub(crate) fn number_at(row: &Row, place: usize, low: u64, most: u64) -> u64
+/// The number of a range that a field is.
+pub(crate) fn number_at(row: &Row, place: usize, range: NumberRange) -> u64
+    requires { IsTrue (is_number range.low range.most (field_at row.now place)) }
+    ensures number { result ≡ number_at row.now place }
+    ensures low { range.low ≤ result }
+    ensures most { result ≤ range.most }
+{
+    number_between(row, place, range.low, range.most)
+}
+
+/// The number from `low` to `most` that a field is.
+fn number_between(row: &Row, place: usize, low: u64, most: u64) -> u64
     requires { IsTrue (is_number low most (field_at row.now place)) }
     ensures number { result ≡ number_at row.now place }
     ensures low { low ≤ result }
@@ -74,10 +86,10 @@ pub(crate) fn number_at(row: &Row, place: usize, low: u64, most: u64) -> u64
 
 /// The point that a field is.
 pub(crate) fn point_at(row: &Row, place: usize) -> Point
-    requires { IsTrue (is_number 0 65535 (field_at row.now place)) }
+    requires { IsTrue (is_number point_words.low point_words.most (field_at row.now place)) }
     ensures { result ≡ number_at row.now place }
 {
-    Point(number_at(row, place, 0, 65_535) as u16)
+    Point(number_at(row, place, POINT_WORDS) as u16)
 }
 
 /// The name that a field is.

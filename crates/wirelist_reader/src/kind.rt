@@ -6,6 +6,10 @@ ghost use Rattle.wirelist_reader.specs.Rows.{is_kind};
 ghost use Rattle.wirelist_reader.specs.Refusals.{is_single};
 ghost use Rattle.wirelist_reader.specs.declared.kind.Kind.TheVariants as kinds;
 
+use wirelist::ranges::{
+    ATTEMPTS, INSULATION_TICKS, INSULATION_VOLTS, MEGOHMS, MILLIOHMS, MILLIVOLTS, NANOAMPS,
+    NumberRange, POINT_WORDS, POINTS, REVISIONS, WITHSTAND_TICKS, WITHSTAND_VOLTS,
+};
 use wirelist_rows::Row;
 
 /// A kind of row.
@@ -14,6 +18,7 @@ pub enum Kind {
     Part,
     Points,
     Net,
+    Ignore,
     Resistor,
     Diode,
     Insulation,
@@ -26,21 +31,15 @@ pub enum Kind {
 pub enum Shape {
     /// A name.
     Name,
-    /// A number from `low` to `most`.
-    Number { low: u64, most: u64 },
-    /// A multiple of 50 from `low` to `most`.
-    Volts { low: u64, most: u64 },
+    /// A number of the range.
+    Number(NumberRange),
+    /// A multiple of 50 of the range.
+    Volts(NumberRange),
     /// A point, or the row's end.
     MorePoints,
     /// The row's end.
     End,
 }
-
-/// A point, as a word.
-const POINT: Shape = Shape::Number {
-    low: 0,
-    most: 65_535,
-};
 
 /// The first field of a row.
 fn kind_word(kind: Kind) -> &'static [u8]
@@ -50,6 +49,7 @@ fn kind_word(kind: Kind) -> &'static [u8]
         Kind::Part => b"part",
         Kind::Points => b"points",
         Kind::Net => b"net",
+        Kind::Ignore => b"ignore",
         Kind::Resistor => b"resistor",
         Kind::Diode => b"diode",
         Kind::Insulation => b"insulation",
@@ -68,6 +68,8 @@ pub(crate) fn kind_of(word: &[u8]) -> Option<Kind>
         Kind::Points
     } else if word == kind_word(Kind::Net) {
         Kind::Net
+    } else if word == kind_word(Kind::Ignore) {
+        Kind::Ignore
     } else if word == kind_word(Kind::Resistor) {
         Kind::Resistor
     } else if word == kind_word(Kind::Diode) {
@@ -97,7 +99,12 @@ pub(crate) fn is_single(kind: Kind) -> bool
 {
     match kind {
         Kind::Net | Kind::Resistor | Kind::Diode => false,
-        Kind::Part | Kind::Points | Kind::Insulation | Kind::Withstand | Kind::Attempts => true,
+        Kind::Part
+        | Kind::Points
+        | Kind::Ignore
+        | Kind::Insulation
+        | Kind::Withstand
+        | Kind::Attempts => true,
     }
 }
 
@@ -110,6 +117,7 @@ pub(crate) fn shape_at(kind: Kind, place: usize) -> Shape
         Kind::Part => part_shape(place),
         Kind::Points => points_shape(place),
         Kind::Net => net_shape(place),
+        Kind::Ignore => ignore_shape(place),
         Kind::Resistor => resistor_shape(place),
         Kind::Diode => diode_shape(place),
         Kind::Insulation => insulation_shape(place),
@@ -125,10 +133,7 @@ fn part_shape(place: usize) -> Shape
 {
     match place {
         1 => Shape::Name,
-        2 => Shape::Number {
-            low: 1,
-            most: 999_999,
-        },
+        2 => Shape::Number(REVISIONS),
         _ => Shape::End,
     }
 }
@@ -139,10 +144,7 @@ fn points_shape(place: usize) -> Shape
     ensures { result ≡ shape_at kinds.Points place }
 {
     match place {
-        1 => Shape::Number {
-            low: 1,
-            most: 1_024,
-        },
+        1 => Shape::Number(POINTS),
         _ => Shape::End,
     }
 }
@@ -158,6 +160,17 @@ fn net_shape(place: usize) -> Shape
     }
 }
 
+/// `ignore,P,P`
+fn ignore_shape(place: usize) -> Shape
+    requires { 1 ≤ place }
+    ensures { result ≡ shape_at kinds.Ignore place }
+{
+    match place {
+        1 => Shape::Number(POINT_WORDS),
+        _ => Shape::MorePoints,
+    }
+}
+
 /// `resistor,NAME,A,B,MIN,MAX`, in milliohms.
 fn resistor_shape(place: usize) -> Shape
     requires { 1 ≤ place }
@@ -165,11 +178,8 @@ fn resistor_shape(place: usize) -> Shape
 {
     match place {
         1 => Shape::Name,
-        2 | 3 => POINT,
-        4 | 5 => Shape::Number {
-            low: 10_001,
-            most: 1_000_000_000_000,
-        },
+        2 | 3 => Shape::Number(POINT_WORDS),
+        4 | 5 => Shape::Number(MILLIOHMS),
         _ => Shape::End,
     }
 }
@@ -181,11 +191,8 @@ fn diode_shape(place: usize) -> Shape
 {
     match place {
         1 => Shape::Name,
-        2 | 3 => POINT,
-        4 | 5 => Shape::Number {
-            low: 1,
-            most: 5_000,
-        },
+        2 | 3 => Shape::Number(POINT_WORDS),
+        4 | 5 => Shape::Number(MILLIVOLTS),
         _ => Shape::End,
     }
 }
@@ -196,18 +203,9 @@ fn insulation_shape(place: usize) -> Shape
     ensures { result ≡ shape_at kinds.Insulation place }
 {
     match place {
-        1 => Shape::Volts {
-            low: 50,
-            most: 1_000,
-        },
-        2 => Shape::Number {
-            low: 1,
-            most: 1_200,
-        },
-        3 => Shape::Number {
-            low: 1,
-            most: 100_000,
-        },
+        1 => Shape::Volts(INSULATION_VOLTS),
+        2 => Shape::Number(INSULATION_TICKS),
+        3 => Shape::Number(MEGOHMS),
         _ => Shape::End,
     }
 }
@@ -218,15 +216,9 @@ fn withstand_shape(place: usize) -> Shape
     ensures { result ≡ shape_at kinds.Withstand place }
 {
     match place {
-        1 => Shape::Volts {
-            low: 50,
-            most: 2_000,
-        },
-        2 => Shape::Number { low: 1, most: 600 },
-        3 => Shape::Number {
-            low: 1,
-            most: 10_000_000,
-        },
+        1 => Shape::Volts(WITHSTAND_VOLTS),
+        2 => Shape::Number(WITHSTAND_TICKS),
+        3 => Shape::Number(NANOAMPS),
         _ => Shape::End,
     }
 }
@@ -237,7 +229,7 @@ fn attempts_shape(place: usize) -> Shape
     ensures { result ≡ shape_at kinds.Attempts place }
 {
     match place {
-        1 => Shape::Number { low: 1, most: 9 },
+        1 => Shape::Number(ATTEMPTS),
         _ => Shape::End,
     }
 }

@@ -1,7 +1,9 @@
 //! The components' places.
 
-ghost use Rattle.std.specs.Prelude.{◌≡◌, ◌++◌, ◌<◌, ◌^◌, ◌-◌, ◌⊎◌, ◌&&◌, nat_lt, length, IfOk, OnOk, IsTrue, All};
+ghost use Rattle.std.specs.Prelude.{◌≡◌, ◌++◌, ◌<◌, ◌^◌, ◌-◌, ◌⊎◌, ◌&&◌, length, IfOk, OnOk, IsTrue, All};
 ghost use Rattle.std.specs.List.{list_any};
+ghost use Rattle.partition.specs.Classes.{has};
+ghost use Rattle.partition.specs.NetTable.{judged_points};
 ghost use Rattle.wirelist_reader.specs.Reading.{IsFit, LiesInside};
 ghost use Rattle.wirelist_reader.specs.Refusals.{Finds, component_faults, joins_same, part_faults};
 ghost use Rattle.wirelist_reader.specs.Rows.{ends_in, ends_of, ends_of_kind, is_component};
@@ -93,12 +95,18 @@ fn check_part(nets: &Nets, before: &[PartEnds], part: &PartEnds) -> Result<(), W
     Ok(())
 }
 
-/// Whether a component lies between points of the matrix.
+/// Whether a component lies between judged points.
 fn lies_inside(nets: &Nets, part: &PartEnds) -> bool
-    ensures { result ≡ (nat_lt part.now.a nets.now.points && nat_lt part.now.b nets.now.points) }
+    ensures { result ≡ (has (judged_points nets.now) part.now.a && has (judged_points nets.now) part.now.b) }
 {
-    let points = nets.points();
-    part.a.0 < points && part.b.0 < points
+    is_judged(nets, part.a) && is_judged(nets, part.b)
+}
+
+/// Whether a number is that of a judged point.
+fn is_judged(nets: &Nets, point: Point) -> bool
+    ensures { result ≡ has (judged_points nets.now) point }
+{
+    point.0 < nets.points() && nets.judged(point)
 }
 
 /// Whether one of the components lies between the same two nets.

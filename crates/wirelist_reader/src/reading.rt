@@ -9,11 +9,13 @@ ghost use Rattle.wirelist.specs.declared.program.Program.{Program};
 ghost use Rattle.wirelist.specs.declared.refusal.WireRefusal.TheVariants as refusals_of;
 ghost use Rattle.wirelist_rows.specs.Filled.{rows_in};
 ghost use Rattle.wirelist_reader.specs.Reading.{IsFit, AreHeads, told};
-ghost use Rattle.wirelist_reader.specs.Refusals.{Finds, FindsOrMemory, refusals, rows_refusals, all_row_faults, head_faults, net_faults, part_faults, cluster_faults};
-ghost use Rattle.wirelist_reader.specs.Rows.{program_of, points_in, listed_nets, ends_of};
+ghost use Rattle.wirelist_reader.specs.Refusals.{Finds, FindsOrMemory, refusals, rows_refusals, all_row_faults};
+ghost use Rattle.wirelist_reader.specs.Refusals.{head_faults, net_faults, part_faults, cluster_faults, later_faults};
+ghost use Rattle.wirelist_reader.specs.Rows.{program_of, points_in, listed_nets, listed_ignored, ends_of};
 
 use crate::build::{
-    attempts, diodes, first_of, insulation, listed_nets, net_names, resistors, withstand,
+    attempts, diodes, first_of, insulation, listed_ignored, listed_nets, net_names, resistors,
+    withstand,
 };
 use crate::check::check_rows;
 use crate::field::{name_at, number_at};
@@ -22,14 +24,12 @@ use crate::parts::{all_ends, check_parts};
 use base::Memory;
 use partition::{Name, Nets, NetsRefusal};
 use std::alloc::Global;
+use wirelist::ranges::{MOST_CLUSTERS, POINTS, REVISIONS};
 use wirelist::{Program, WireRefusal, cluster_count};
 use wirelist_rows::{Row, rows};
 
 /// The greatest number of bytes.
 const MOST_BYTES: usize = 1_048_576;
-
-/// The greatest number of clusters whose insulation is tested.
-const MOST_CLUSTERS: u32 = 256;
 
 /// The program that a wirelist gives.
 ///
@@ -77,7 +77,7 @@ fn read_nets_and_parts(alloc: Global, rows: &[Row], heads: Heads) -> Result<Prog
     requires heads { AreHeads rows.now heads.part heads.revision heads.points }
     ensures program { IfOk result (λ p. p ≡ program_of rows.now) }
     ensures valid { IfOk result IsProgram }
-    ensures finds { FindsOrMemory (net_faults rows.now ++ (part_faults (program_of rows.now).nets (ends_of rows.now) ++ cluster_faults (program_of rows.now))) result }
+    ensures finds { FindsOrMemory (net_faults rows.now ++ later_faults rows.now) result }
 {
     match read_nets(alloc, rows, heads.points) {
         Ok(nets) => read_parts(alloc, rows, heads, nets),
@@ -91,12 +91,12 @@ fn read_parts(alloc: Global, rows: &[Row], heads: Heads, nets: Nets) -> Result<P
     requires rows { all_row_faults rows.now ≡ [] }
     requires named { head_faults rows.now ≡ [] }
     requires heads { AreHeads rows.now heads.part heads.revision heads.points }
-    requires nets { nets ≡ table_of (points_in rows.now) (listed_nets rows.now) }
-    requires netted { net_faults rows.now ≡ [] }
+    requires nets { nets ≡ table_of (points_in rows.now) (listed_nets rows.now) (listed_ignored rows.now) }
     ensures program { IfOk result (λ p. p ≡ program_of rows.now) }
     ensures valid { IfOk result IsProgram }
-    ensures finds { FindsOrMemory (part_faults (program_of rows.now).nets (ends_of rows.now) ++ cluster_faults (program_of rows.now)) result }
+    ensures finds { FindsOrMemory (later_faults rows.now) result }
 {
+    let _points = nets.points();
     let ends = all_ends(alloc, rows)?;
     if let Err(refusal) = check_parts(&nets, ends.as_slice()) {
         return Err(refusal);
@@ -128,21 +128,22 @@ fn read_heads(rows: &[Row]) -> Result<Heads, WireRefusal>
     };
     Ok(Heads {
         part: name_at(part, 1),
-        revision: number_at(part, 2, 1, 999_999) as u32,
-        points: number_at(points, 1, 1, 1_024) as u16,
+        revision: number_at(part, 2, REVISIONS) as u32,
+        points: number_at(points, 1, POINTS) as u16,
     })
 }
 
-/// The nets, where they are nets.
+/// The nets over the judged points, where they are nets.
 fn read_nets(alloc: Global, rows: &[Row], points: u16) -> Result<Nets, WireRefusal>
     requires fit { All IsFit rows.now }
     requires some { 1 ≤ points }
     requires points { points ≡ points_in rows.now }
-    ensures nets { IfOk result (λ nets. nets ≡ table_of (points_in rows.now) (listed_nets rows.now)) }
+    ensures nets { IfOk result (λ nets. nets ≡ table_of (points_in rows.now) (listed_nets rows.now) (listed_ignored rows.now)) }
     ensures finds { FindsOrMemory (net_faults rows.now) result }
 {
     let lists = listed_nets(alloc, rows)?;
-    match Nets::new(alloc, points, lists) {
+    let ignored = listed_ignored(alloc, rows)?;
+    match Nets::judging(alloc, points, lists, ignored) {
         Ok(nets) => Ok(nets),
         Err(refusal) => Err(told(refusal)),
     }
@@ -162,7 +163,7 @@ fn told(refusal: NetsRefusal) -> WireRefusal
 fn program(alloc: Global, rows: &[Row], heads: Heads, nets: Nets) -> Result<Program, Memory>
     requires fit { All IsFit rows.now }
     requires heads { AreHeads rows.now heads.part heads.revision heads.points }
-    requires nets { nets ≡ table_of (points_in rows.now) (listed_nets rows.now) }
+    requires nets { nets ≡ table_of (points_in rows.now) (listed_nets rows.now) (listed_ignored rows.now) }
     ensures { IfOk result (λ p. p ≡ program_of rows.now) }
 {
     let names = net_names(alloc, rows)?;

@@ -14,10 +14,14 @@ use partition::Name;
 use std::alloc::Global;
 use std::collections::BTreeSet;
 use wirelist::WireRefusal;
+use wirelist::ranges::{MILLIOHMS, MILLIVOLTS, MOST_PARTS, NumberRange};
 use wirelist_rows::Row;
 
-/// The greatest number of components.
-const MOST_PARTS: usize = 512;
+/// The numbers in the window of a resistor or of a diode.
+const WINDOWS: NumberRange = NumberRange {
+    low: MILLIVOLTS.low,
+    most: MILLIOHMS.most,
+};
 
 /// The names of the nets and components of some rows, and how many components there are.
 #[derive(Drop)]
@@ -42,7 +46,8 @@ impl Seen {
         requires fit { IsFit row.now }
         requires few { self.old.components < 2 ^ 32 }
         ensures finds { (before : List (List (List ℕ))) → IsSeen before self.old.names self.old.components → FindsOrMemory (late_faults before row.now number) result }
-        ensures seen { (before : List (List (List ℕ))) → IsSeen before self.old.names self.old.components → OnOk result (IsSeen (before ++ row.now ∷ []) self.new.names self.new.components) }
+        ensures seen { (before : List (List (List ℕ))) → IsSeen before self.old.names self.old.components →
+            OnOk result (IsSeen (before ++ row.now ∷ []) self.new.names self.new.components) }
     {
         if !is_named(row) {
             return Ok(());
@@ -57,7 +62,8 @@ impl Seen {
     fn add_name(&mut self, alloc: Global, row: &Row, number: u32) -> Result<(), WireRefusal>
         requires fit { IsFit row.now }
         requires named { IsTrue (is_named row.now) }
-        ensures finds { (names : List (List ℕ)) → AreNames self.old.names names → FindsOrMemory (fault_if (list_any (bytes_eq (field_at row.now 1)) names) (WireRefusal.SameName number)) result }
+        ensures finds { (names : List (List ℕ)) → AreNames self.old.names names →
+            FindsOrMemory (fault_if (list_any (bytes_eq (field_at row.now 1)) names) (WireRefusal.SameName number)) result }
         ensures names { (names : List (List ℕ)) → AreNames self.old.names names → OnOk result (AreNames self.new.names (names ++ field_at row.now 1 ∷ [])) }
         ensures components { self.new.components ≡ self.old.components }
     {
@@ -140,5 +146,5 @@ fn window_end(row: &Row, place: usize) -> u64
     requires place { (place ≡ 4) ⊎ (place ≡ 5) }
     ensures { result ≡ number_at row.now place }
 {
-    number_at(row, place, 1, 1_000_000_000_000)
+    number_at(row, place, WINDOWS)
 }

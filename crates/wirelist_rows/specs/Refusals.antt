@@ -1,10 +1,10 @@
 -- Why reading a text stopped.
 use Rattle.std.specs.Prelude.{◌≡◌, ⊤, true}
 use Rattle.csv.specs.Reading.{error_kind, stops_reader}
-use Rattle.wirelist_rows.specs.declared.table.Unread.{Unread}
-use Rattle.wirelist_rows.specs.declared.table.Unread.TheVariants.{Csv, Memory}
+use Rattle.wirelist_rows.specs.declared.stop.RowsStop.{RowsStop}
+use Rattle.wirelist_rows.specs.declared.stop.RowsStop.TheVariants.{Csv, Memory}
 
 -- memory ran out, or the reader underneath failed; so never for a record's text or its number of fields
-abbrev pub IsOutside : Unread → Type 0
+abbrev pub IsOutside : RowsStop → Type 0
 IsOutside (Csv error) = stops_reader (error_kind error) ≡ true
 IsOutside Memory = ⊤

@@ -4,51 +4,9 @@ ghost use Rattle.std.specs.Prelude.{◌≡◌, [], take, slice_index_or};
 ghost use Rattle.csv.specs.Records.{fields_of};
 ghost use Rattle.wirelist_rows.specs.Filled.{filled};
 
-use csv::{ByteRecord, Error};
-use std::alloc::{AllocError, AllocFailed};
+use csv::ByteRecord;
+use std::alloc::AllocError;
 use std::marker::Model;
-
-/// Why reading stopped.
-#[derive(Debug, Drop)]
-pub(crate) enum Unread {
-    /// `csv` refused.
-    Csv(Error),
-    /// Memory ran out.
-    Memory,
-}
-
-impl From<Error> for Unread {
-    ghost use Rattle.std.specs.Prelude.{◌≡◌};
-    ghost use Rattle.wirelist_rows.specs.declared.table.Unread.TheVariants.{Csv};
-
-    ghost from_gives = { λ error unread. unread ≡ Csv error };
-
-    fn from(error: Error) -> Self {
-        Unread::Csv(error)
-    }
-}
-
-impl<T: Drop> From<AllocFailed<T>> for Unread {
-    ghost use Rattle.std.specs.Prelude.{◌≡◌};
-    ghost use Rattle.wirelist_rows.specs.declared.table.Unread.TheVariants.{Memory};
-
-    ghost from_gives = { λ _ unread. unread ≡ Memory };
-
-    fn from(_: AllocFailed<T>) -> Self {
-        Unread::Memory
-    }
-}
-
-impl From<AllocError> for Unread {
-    ghost use Rattle.std.specs.Prelude.{◌≡◌};
-    ghost use Rattle.wirelist_rows.specs.declared.table.Unread.TheVariants.{Memory};
-
-    ghost from_gives = { λ _ unread. unread ≡ Memory };
-
-    fn from(_: AllocError) -> Self {
-        Unread::Memory
-    }
-}
 
 /// A row: the list of its fields, of which the last is not empty.
 #[derive(Drop)]

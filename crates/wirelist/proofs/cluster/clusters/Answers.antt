@@ -1,22 +1,25 @@
-use Rattle.std.proofs.Common.{◌<◌, ℕ, All, sym, ◌∙◌, ap, subst, arith}
+use Rattle.std.proofs.Common.{◌<◌, ◌^◌, ℕ, List, All, length, sym, ◌∙◌, ap, subst}
 use Rattle.std.proofs.lemmas.Result.{IfOk-weaker}
-use Rattle.wirelist.specs.Clusters.{first_nets_of}
-use Rattle.wirelist.proofs.ClusterLemmas.{clusters_are, labels_fit}
+use Rattle.partition.specs.Partitions.{IsLabel}
+use Rattle.wirelist.proofs.ClusterLemmas.{clusters_are, labels_are, labels_size}
 use Rattle.wirelist.proofs.cluster.clusters.Goals as goal
 
 pub by_labels-requires-clause-few : goal.by_labels-requires-clause-few
 by_labels-requires-clause-few c =
-    let size = labels_fit c.args.p.now.nets c.in_ok-linked.linked c.as_slice.result.now (c.as_slice.ensures ∙ c.in_ok-labels.ensures.labels) in
-    let small = c.in_ok-linked.ensures.small in
-    omega arith
+    let linked = c.in_ok-linked.ensures in
+    subst (λ (n : ℕ). n < 2 ^ 16)
+    (sym (ap length (c.as_slice.ensures ∙ c.in_ok-labels.ensures) ∙ labels_size c.args.p.now.nets linked.table c.in_ok-linked.linked linked.nets linked.few linked.small))
+    linked.small
 
-pub by_labels-requires-clause-below : goal.by_labels-requires-clause-below
-by_labels-requires-clause-below c =
-    let size = labels_fit c.args.p.now.nets c.in_ok-linked.linked c.as_slice.result.now (c.as_slice.ensures ∙ c.in_ok-labels.ensures.labels) in
-    subst (λ (n : ℕ). All (λ label. label < n) c.as_slice.result.now) (sym size)
-    (subst (All (λ label. label < c.args.p.now.nets.points)) (sym c.as_slice.ensures) c.in_ok-labels.ensures.below)
+pub by_labels-requires-clause-labels : goal.by_labels-requires-clause-labels
+by_labels-requires-clause-labels c =
+    let linked = c.in_ok-linked.ensures in
+    subst (λ (xs : List ℕ). All (IsLabel (length xs)) xs) (sym (c.as_slice.ensures ∙ c.in_ok-labels.ensures))
+    (labels_are c.args.p.now.nets linked.table c.in_ok-linked.linked linked.nets linked.few linked.small)
 
 pub returns : goal.returns
 returns c =
-    let labels = c.as_slice.ensures ∙ c.in_ok-labels.ensures.labels ∙ ap (first_nets_of c.args.p.now.nets) c.in_ok-linked.ensures.linked in
-    IfOk-weaker c.by_labels.result _ _ (λ classes made. clusters_are c.args.p.now c.as_slice.result.now classes labels made) c.by_labels.ensures
+    let linked = c.in_ok-linked.ensures in
+    IfOk-weaker c.by_labels.result _ _
+    (clusters_are c.args.p.now linked.table linked.few linked.small c.in_ok-linked.linked c.as_slice.result.now linked.nets linked.linked (c.as_slice.ensures ∙ c.in_ok-labels.ensures))
+    c.by_labels.ensures

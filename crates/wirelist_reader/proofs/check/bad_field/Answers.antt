@@ -9,4 +9,4 @@ pub returns-in-Some : goal.returns-in-Some
 returns-in-Some c =
     let kind : is_kind Points c.args.row.now ≡ true = search rules in
     too_many_points c.args.row.now c.args.number c.args.place c.in-Some.points (search rules) kind
-    (subst (λ (field : List ℕ). IsNumberWord field 1025 4294967295 c.in-Some.points) c.field.ensures c.in-Some.ensures.number)
+    (subst (λ (field : List ℕ). IsNumberWord field 4097 4294967295 c.in-Some.points) c.field.ensures c.in-Some.ensures.number)

@@ -1,4 +1,5 @@
 use Rattle.std.proofs.Common.{◌≡◌, ◌∙◌, [], sym, ap, subst}
+use Rattle.partition.specs.NetTable.{IsNetTable}
 use Rattle.wirelist.specs.Clusters.{ComponentsInside}
 use Rattle.wirelist.specs.Programs.{IsProgram}
 use Rattle.wirelist_reader.specs.Refusals.{cluster_faults}
@@ -27,5 +28,6 @@ check_clusters-requires c =
 pub returns-in-Ok-clause-valid : goal.returns-in-Ok-clause-valid
 returns-in-Ok-clause-valid c =
     let parts = parts_faultless c.args.rows.now c.args.nets c.as_slice.result.now c.requires.nets (c.as_slice.ensures.value ∙ c.in_ok-ends.ensures) c.in_default.ensures in
+    let nets : IsNetTable (program_of c.args.rows.now).nets = subst IsNetTable c.requires.nets c.points-points.ensures.valid in
     let clusters : cluster_faults (program_of c.args.rows.now) ≡ [] = ap cluster_faults (sym c.in_ok-p.ensures) ∙ c.in-Ok.ensures in
-    subst IsProgram (sym c.in_ok-p.ensures) (program_of_faultless c.args.rows.now c.requires.rows c.requires.named c.requires.netted parts clusters)
+    subst IsProgram (sym c.in_ok-p.ensures) (program_of_faultless c.args.rows.now c.requires.rows c.requires.named nets parts clusters)

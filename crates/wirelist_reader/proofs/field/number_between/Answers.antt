@@ -1,7 +1,7 @@
 use Rattle.std.proofs.Common.{sym, ◌∙◌, ap}
 use Rattle.wirelist_reader.specs.Kinds.{number}
 use Rattle.wirelist_reader.proofs.Numbers.{word_number}
-use Rattle.wirelist_reader.proofs.field.number_at.Goals as goal
+use Rattle.wirelist_reader.proofs.field.number_between.Goals as goal
 
 pub returns-clause-number : goal.returns-clause-number
 returns-clause-number c =
