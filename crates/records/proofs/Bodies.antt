@@ -1,5 +1,5 @@
 -- The fields of each kind, and whole records.
-use Rattle.std.proofs.Common.{◌≡◌, ◌≢◌, ℕ, ◌^◌, ◌<◌, ◌≤◌, List, ◌∷◌, ◌++◌, length, Some, Result, Ok, Err, refl, sym, ap, ◌∙◌, append_assoc, arith}
+use Rattle.std.proofs.Common.{◌≡◌, ◌≢◌, ℕ, ◌^◌, ◌<◌, ◌≤◌, Bool, true, false, if◌then◌else◌, List, [], ◌∷◌, ◌++◌, length, Option, None, Some, is_some, Result, Ok, Err, refl, sym, ap, ◌∙◌, append_assoc, arith}
 use Rattle.std.proofs.lemmas.Option.{some_pair_parts}
 use Rattle.std.specs.Int.{w32}
 use Rattle.partition.specs.Names.{IsName}
@@ -7,13 +7,14 @@ use Rattle.wirelist.specs.declared.outcome.Outcome.{Outcome}
 use Rattle.wirelist.specs.declared.program.Program.{Program}
 use Rattle.wirelist.specs.Canonical.{canonical}
 use Rattle.wirelist.specs.Programs.{IsProgram}
+use Rattle.records.specs.declared.record.Staff.{Staff}
 use Rattle.records.specs.declared.record.Body.{Body}
-use Rattle.records.specs.declared.record.Body.TheVariants.{Adopt, Enrol, Calibrate, Tested, Rework, Release, Scrap}
+use Rattle.records.specs.declared.record.Body.TheVariants.{Adopt, Enrol, Calibrate, Tested, Rework, Release, Scrap, Mark}
 use Rattle.records.specs.declared.record.StationRecord.{StationRecord}
 use Rattle.records.specs.declared.stop.DecodeStop.{DecodeStop}
 use Rattle.records.specs.declared.stop.DecodeStop.TheVariants.{NotARecord, Memory}
-use Rattle.records.specs.RecordBytes.{kind_of, four_bytes, eight_bytes, name_bytes, tested_bytes, program_bytes, body_bytes, record_bytes}
-use Rattle.records.specs.RecordRanges.{Decodes, Only, IsDay, IsTested, IsBody, IsBodyOf, Spells, last_moment}
+use Rattle.records.specs.RecordBytes.{test_kind, kind_of, four_bytes, eight_bytes, name_bytes, tested_bytes, program_bytes, body_bytes, record_bytes}
+use Rattle.records.specs.RecordRanges.{Decodes, Only, IsDay, IsTestedAs, IsBody, IsBodyOf, Spells, last_moment}
 use Rattle.records.specs.Reading.{Refuses, number_at, header_at}
 use Rattle.records.proofs.Readers.{IsBytes, number32}
 use Rattle.records.proofs.Decoding.{header_bytes, header_reader}
@@ -21,65 +22,110 @@ use Rattle.records.proofs.Decoding.{header_bytes, header_reader}
 -- records of one kind are made of what their fields say
 pub record IsKind {X : Type 0} (F : X → Type 0) (s : X → List ℕ) (kind : ℕ) (made : X → Body) : Type 0 where
   pub fits : (x : X) → F x → IsBody (made x)
-  pub is : (x : X) → kind ≡ kind_of (made x)
+  pub is : (x : X) → F x → kind ≡ kind_of (made x)
   pub spelled : (x : X) → s x ≡ body_bytes (made x)
   pub each : (b : Body) → IsBody b → kind ≡ kind_of b → (x : X) × F x × (made x ≡ b)
 
+-- a record of another kind is no test
+no_test : (kind : ℕ) (staff : Option Staff) → kind ≢ 4 → kind ≢ 9 → kind ≡ test_kind staff → ⊥
+no_test kind None other _ is = other is
+no_test kind (Some staff) _ other is = other is
+
 adopts : (b : Body) → IsBody b → 1 ≡ kind_of b → (x : Program) × IsProgram x × (Adopt x ≡ b)
 adopts (Adopt p) fits is = (p, fits, refl)
+adopts (Tested serial attempt staff outcome) fits is = absurd (no_test 1 staff (omega arith) (omega arith) is)
 adopts b fits is = absurd (omega arith)
 
 pub adopt_kind : IsKind IsProgram program_bytes 1 (λ p. Adopt p)
-adopt_kind = record { fits = λ x fits. fits; is = λ x. refl; spelled = λ x. refl; each = adopts }
+adopt_kind = record { fits = λ x fits. fits; is = λ x fits. refl; spelled = λ x. refl; each = adopts }
 
 enrols : (b : Body) → IsBody b → 2 ≡ kind_of b → (x : List ℕ) × IsName x × (Enrol x ≡ b)
 enrols (Enrol serial) fits is = (serial, fits, refl)
+enrols (Tested serial attempt staff outcome) fits is = absurd (no_test 2 staff (omega arith) (omega arith) is)
 enrols b fits is = absurd (omega arith)
 
 pub enrol_kind : IsKind IsName name_bytes 2 (λ serial. Enrol serial)
-enrol_kind = record { fits = λ x fits. fits; is = λ x. refl; spelled = λ x. refl; each = enrols }
+enrol_kind = record { fits = λ x fits. fits; is = λ x fits. refl; spelled = λ x. refl; each = enrols }
 
 calibrates : (b : Body) → IsBody b → 3 ≡ kind_of b → (x : ℕ) × IsDay x × (Calibrate x ≡ b)
 calibrates (Calibrate day) fits is = (day, fits, refl)
+calibrates (Tested serial attempt staff outcome) fits is = absurd (no_test 3 staff (omega arith) (omega arith) is)
 calibrates b fits is = absurd (omega arith)
 
 pub calibrate_kind : IsKind IsDay four_bytes 3 (λ day. Calibrate day)
-calibrate_kind = record { fits = λ x fits. fits; is = λ x. refl; spelled = λ x. refl; each = calibrates }
+calibrate_kind = record { fits = λ x fits. fits; is = λ x fits. refl; spelled = λ x. refl; each = calibrates }
 
-abbrev tested : List ℕ × ℕ × Outcome → Body
-tested t = Tested t.0 t.1 t.2
+-- what a test's record keeps
+abbrev pub Test : Type 0
+Test = List ℕ × ℕ × Option Staff × Outcome
 
-tests : (b : Body) → IsBody b → 4 ≡ kind_of b → (x : List ℕ × ℕ × Outcome) × IsTested x × (tested x ≡ b)
-tests (Tested serial attempt outcome) fits is = ((serial, attempt, outcome), fits, refl)
+abbrev pub tested : Test → Body
+tested t = Tested t.0 t.1 t.2 t.3
+
+without_staff : (staff : Option Staff) → is_some staff ≡ false → 4 ≡ test_kind staff
+without_staff None is = refl
+without_staff (Some staff) is = absurd cc
+
+with_staff : (staff : Option Staff) → is_some staff ≡ true → 9 ≡ test_kind staff
+with_staff None is = absurd cc
+with_staff (Some staff) is = refl
+
+tests : (b : Body) → IsBody b → 4 ≡ kind_of b → (x : Test) × IsTestedAs false x × (tested x ≡ b)
+tests (Tested serial attempt None outcome) fits is = ((serial, attempt, None, outcome), record { in_range = fits; names_staff = refl }, refl)
+tests (Tested serial attempt (Some staff) outcome) fits is = absurd (omega arith)
 tests b fits is = absurd (omega arith)
 
-pub tested_kind : IsKind IsTested tested_bytes 4 (λ t. Tested t.0 t.1 t.2)
-tested_kind = record { fits = λ x fits. fits; is = λ x. refl; spelled = λ x. refl; each = tests }
+staffed_tests : (b : Body) → IsBody b → 9 ≡ kind_of b → (x : Test) × IsTestedAs true x × (tested x ≡ b)
+staffed_tests (Tested serial attempt None outcome) fits is = absurd (omega arith)
+staffed_tests (Tested serial attempt (Some staff) outcome) fits is = ((serial, attempt, Some staff, outcome), record { in_range = fits; names_staff = refl }, refl)
+staffed_tests b fits is = absurd (omega arith)
+
+pub tested_kind : (has_staff : Bool) → IsKind (IsTestedAs has_staff) tested_bytes (if has_staff then 9 else 4) tested
+tested_kind false = record { fits = λ x fits. fits.in_range; is = λ x fits. without_staff x.2 fits.names_staff; spelled = λ x. refl; each = tests }
+tested_kind true = record { fits = λ x fits. fits.in_range; is = λ x fits. with_staff x.2 fits.names_staff; spelled = λ x. refl; each = staffed_tests }
 
 reworks : (b : Body) → IsBody b → 5 ≡ kind_of b → (x : List ℕ) × IsName x × (Rework x ≡ b)
 reworks (Rework serial) fits is = (serial, fits, refl)
+reworks (Tested serial attempt staff outcome) fits is = absurd (no_test 5 staff (omega arith) (omega arith) is)
 reworks b fits is = absurd (omega arith)
 
 pub rework_kind : IsKind IsName name_bytes 5 (λ serial. Rework serial)
-rework_kind = record { fits = λ x fits. fits; is = λ x. refl; spelled = λ x. refl; each = reworks }
+rework_kind = record { fits = λ x fits. fits; is = λ x fits. refl; spelled = λ x. refl; each = reworks }
 
 releases : (b : Body) → IsBody b → 6 ≡ kind_of b → (x : List ℕ) × IsName x × (Release x ≡ b)
 releases (Release serial) fits is = (serial, fits, refl)
+releases (Tested serial attempt staff outcome) fits is = absurd (no_test 6 staff (omega arith) (omega arith) is)
 releases b fits is = absurd (omega arith)
 
 pub release_kind : IsKind IsName name_bytes 6 (λ serial. Release serial)
-release_kind = record { fits = λ x fits. fits; is = λ x. refl; spelled = λ x. refl; each = releases }
+release_kind = record { fits = λ x fits. fits; is = λ x fits. refl; spelled = λ x. refl; each = releases }
 
 scraps : (b : Body) → IsBody b → 7 ≡ kind_of b → (x : List ℕ) × IsName x × (Scrap x ≡ b)
 scraps (Scrap serial) fits is = (serial, fits, refl)
+scraps (Tested serial attempt staff outcome) fits is = absurd (no_test 7 staff (omega arith) (omega arith) is)
 scraps b fits is = absurd (omega arith)
 
 pub scrap_kind : IsKind IsName name_bytes 7 (λ serial. Scrap serial)
-scrap_kind = record { fits = λ x fits. fits; is = λ x. refl; spelled = λ x. refl; each = scraps }
+scrap_kind = record { fits = λ x fits. fits; is = λ x fits. refl; spelled = λ x. refl; each = scraps }
+
+-- a mark says nothing
+abbrev pub IsNothing : Unit {0} → Type 0
+IsNothing _ = Unit {0}
+
+abbrev pub no_bytes : Unit {0} → List ℕ
+no_bytes _ = []
+
+marks : (b : Body) → IsBody b → 8 ≡ kind_of b → (x : Unit {0}) × IsNothing x × (Mark ≡ b)
+marks Mark fits is = (tt, tt, refl)
+marks (Tested serial attempt staff outcome) fits is = absurd (no_test 8 staff (omega arith) (omega arith) is)
+marks b fits is = absurd (omega arith)
+
+pub mark_kind : IsKind IsNothing no_bytes 8 (λ x. Mark)
+mark_kind = record { fits = λ x fits. tt; is = λ x fits. refl; spelled = λ x. refl; each = marks }
 
 pub kind_ok : {X : Type 0} {F : X → Type 0} {s : X → List ℕ} {kind : ℕ} {made : X → Body} → IsKind F s kind made → (fields : List ℕ) (x : X) → Decodes F s fields (Ok x) → Decodes (IsBodyOf kind) body_bytes fields (Ok (made x))
 kind_ok {X} {F} {s} {kind} {made} k fields x d = record {
-  found = (record { in_range = k.fits x d.found.0; kind_is = k.is x }, d.found.1 ∙ k.spelled x);
+  found = (record { in_range = k.fits x d.found.0; kind_is = k.is x d.found.0 }, d.found.1 ∙ k.spelled x);
   only = λ b fits is. let y = k.each b fits.in_range fits.kind_is in ap made (d.only y.0 y.1 (is ∙ sym (k.spelled y.0 ∙ ap body_bytes y.2))) ∙ y.2;
 }
 
@@ -88,6 +134,12 @@ kind_err k fields e d = record {
   found = tt;
   only = λ b fits is. let y = k.each b fits.in_range fits.kind_is in d.only y.0 y.1 (is ∙ sym (k.spelled y.0 ∙ ap body_bytes y.2));
 }
+
+pub mark_found : (fields : List ℕ) → fields ≡ [] → Decodes (IsBodyOf 8) body_bytes fields (Ok Mark)
+mark_found fields is = kind_ok mark_kind fields tt (record { found = (tt, is); only = λ x fits spelled. refl })
+
+pub mark_not : (fields : List ℕ) → (fields ≡ [] → ⊥) → Decodes (IsBodyOf 8) body_bytes fields (Err NotARecord)
+mark_not fields some = kind_err mark_kind fields NotARecord (record { found = tt; only = λ x fits spelled. absurd (some spelled) })
 
 -- ---- whole records
 

@@ -1,16 +1,17 @@
 -- What bytes are read as, all of them.
-use Rattle.std.proofs.Common.{◌≡◌, Bool, true, false, eqb, ℕ, ◌≤◌, List, [], ◌∷◌, ◌++◌, length, Some, Ok, Err, refl, sym, ap, subst, ◌∙◌, arith}
+use Rattle.std.proofs.Common.{◌≡◌, Bool, true, false, eqb, ℕ, ◌≤◌, List, [], ◌∷◌, ◌++◌, length, Option, None, Some, is_some, IfSome, Ok, Err, refl, sym, ap, subst, ◌∙◌, arith}
 use Rattle.std.proofs.lemmas.Option.{same_Some, some_pair_parts}
 use Rattle.std.proofs.lemmas.List.{append-nil, nil_from_length}
 use Rattle.std.proofs.lemmas.Bool.{eqb-true, eqb-false}
 use Rattle.std.specs.Int.{w32, w64}
 use Rattle.partition.specs.Names.{IsName}
 use Rattle.wirelist.specs.declared.outcome.Outcome.{Outcome}
+use Rattle.records.specs.declared.record.Staff.{Staff}
 use Rattle.records.specs.declared.stop.DecodeStop.{DecodeStop}
 use Rattle.records.specs.declared.stop.DecodeStop.TheVariants.{NotARecord, Memory}
-use Rattle.records.specs.RecordBytes.{four_bytes, eight_bytes, name_bytes, tested_bytes}
-use Rattle.records.specs.RecordRanges.{Decodes, IsDay, IsTested, last_moment}
-use Rattle.records.specs.Reading.{outcome_at, Reader, Refuses, number_at, tested_at, header_at}
+use Rattle.records.specs.RecordBytes.{four_bytes, eight_bytes, name_bytes, staff_bytes, tested_bytes}
+use Rattle.records.specs.RecordRanges.{Decodes, IsDay, IsStaff, IsTestedAs, last_moment}
+use Rattle.records.specs.Reading.{outcome_at, Reader, Refuses, number_at, staff_at, tested_at, header_at}
 use Rattle.records.specs.Reading.{both_at, byte_at, name_at}
 use Rattle.records.proofs.Readers.{IsBytes, IsBytes-rest, bind_some, both_reads, name_is, IsReader, both_reader, made_reader, byte_reader, number32, number64, name_reader}
 use Rattle.records.proofs.Outcomes.{outcome_reader}
@@ -43,10 +44,34 @@ whole_ok {X} {F} {s} {r} a bytes y rest bs h end fits = record {
 pub day_reader : IsReader IsDay four_bytes (number_at w32)
 day_reader = record { takes = number32.takes; again = λ n rest fits. number32.again n rest (omega arith) }
 
-pub tested_reader : IsReader IsTested tested_bytes tested_at
+none_takes : (bytes : List ℕ) (staff : Option Staff) (rest : List ℕ) → staff_at false bytes ≡ Some (staff, rest) → bytes ≡ staff_bytes staff ++ rest
+unfolding staff_at
+none_takes bytes staff rest e =
+    let made : Option Staff × List ℕ = (None, bytes) in
+    subst (λ (z : Option Staff × List ℕ). bytes ≡ staff_bytes z.0 ++ z.1) (same_Some made (staff, rest) e) refl
+
+none_again : (staff : Option Staff) (rest : List ℕ) → is_some staff ≡ false → staff_at false (staff_bytes staff ++ rest) ≡ Some (staff, rest)
+unfolding staff_at
+none_again None rest is = refl
+none_again (Some s) rest is = absurd cc
+
+-- who made a test and where, in range, where a test names it
+abbrev pub NamesStaff : Bool → Option Staff → Type 0
+NamesStaff has_staff staff = IfSome staff IsStaff × (is_some staff ≡ has_staff)
+
+names_of : (staff : Option Staff) → NamesStaff true staff → (x : List ℕ × List ℕ) × (IsName x.0 × IsName x.1) × (Some (record { operator = x.0; fixture = x.1 }) ≡ staff)
+names_of None fits = absurd (let is = fits.1 in cc)
+names_of (Some s) fits = ((s.operator, s.fixture), (fits.0.operator, fits.0.fixture), refl)
+
+pub staff_reader : (has_staff : Bool) → IsReader (NamesStaff has_staff) staff_bytes (staff_at has_staff)
+unfolding staff_at
+staff_reader false = record { takes = λ bytes staff rest fits e. none_takes bytes staff rest e; again = λ staff rest fits. none_again staff rest fits.1 }
+staff_reader true = made_reader (both_reader name_reader name_reader) (NamesStaff true) staff_bytes _ (λ x. refl) names_of
+
+pub tested_reader : (has_staff : Bool) → IsReader (IsTestedAs has_staff) tested_bytes (tested_at has_staff)
 unfolding tested_at
-tested_reader = made_reader (both_reader name_reader (both_reader byte_reader outcome_reader)) IsTested tested_bytes _ (λ x. refl)
-    (λ t fits. ((t.0, (t.1, t.2)), (fits.serial, (tt, fits.outcome)), refl))
+tested_reader has_staff = made_reader (both_reader name_reader (both_reader byte_reader (both_reader (staff_reader has_staff) outcome_reader))) (IsTestedAs has_staff) tested_bytes _ (λ x. refl)
+    (λ t fits. ((t.0, (t.1, (t.2, t.3))), (fits.in_range.serial, (tt, ((fits.in_range.staff, fits.names_staff), fits.in_range.outcome))), refl))
 
 -- kind, moment and id
 pub record IsHeader (h : ℕ × ℕ × List ℕ) : Type 0 where
@@ -81,12 +106,33 @@ header_named bytes h fields bs e =
     let whole : (ℕ × ℕ × List ℕ) × List ℕ = ((m.0.0.0, m.0.0.1.0, m.0.0.1.1), m.0.1) in
     subst (λ (z : (ℕ × ℕ × List ℕ) × List ℕ). IsName z.0.2) (same_Some whole (h, fields) m.2) named
 
--- the serial of a test is a name
-pub tested_named : (bytes : List ℕ) (t : List ℕ × ℕ × Outcome) (rest : List ℕ) → IsBytes bytes → tested_at bytes ≡ Some (t, rest) → IsName t.0
+-- who made a test and where are names
+staff_named : (has_staff : Bool) (bytes : List ℕ) (staff : Option Staff) (rest : List ℕ) → IsBytes bytes → staff_at has_staff bytes ≡ Some (staff, rest) → NamesStaff has_staff staff
+unfolding staff_at
+staff_named false bytes staff rest bs e =
+    let made : Option Staff × List ℕ = (None, bytes) in
+    subst (λ (z : Option Staff × List ℕ). NamesStaff false z.0) (same_Some made (staff, rest) e) (tt, refl)
+staff_named true bytes staff rest bs e =
+    let m = bind_some (both_at name_at name_at bytes) (λ x. Some (Some (record { operator = x.0.0; fixture = x.0.1 }), x.1)) (staff, rest) e in
+    let p = both_reads name_at name_at bytes m.0.0 m.0.1 m.1 in
+    let bs1 : IsBytes p.0 = IsBytes-rest bytes (name_bytes m.0.0.0) p.0 bs (name_reader.takes bytes m.0.0.0 p.0 bs p.1) in
+    let operator : IsName m.0.0.0 = name_is bytes m.0.0.0 p.0 bs p.1 in
+    let fixture : IsName m.0.0.1 = name_is p.0 m.0.0.1 m.0.1 bs1 p.2 in
+    let made : Option Staff × List ℕ = (Some (record { operator = m.0.0.0; fixture = m.0.0.1 }), m.0.1) in
+    subst (λ (z : Option Staff × List ℕ). NamesStaff true z.0) (same_Some made (staff, rest) m.2) (record { operator = operator; fixture = fixture }, refl)
+
+-- so is the serial of a test
+pub tested_named : (has_staff : Bool) (bytes : List ℕ) (t : List ℕ × ℕ × Option Staff × Outcome) (rest : List ℕ) → IsBytes bytes → tested_at has_staff bytes ≡ Some (t, rest)
+    → IsName t.0 × NamesStaff has_staff t.2
 unfolding tested_at
-tested_named bytes t rest bs e =
-    let m = bind_some (both_at name_at (both_at byte_at outcome_at) bytes) (λ x. Some ((x.0.0, x.0.1.0, x.0.1.1), x.1)) (t, rest) e in
-    let p = both_reads name_at (both_at byte_at outcome_at) bytes m.0.0 m.0.1 m.1 in
-    let named : IsName m.0.0.0 = name_is bytes m.0.0.0 p.0 bs p.1 in
-    let whole : (List ℕ × ℕ × Outcome) × List ℕ = ((m.0.0.0, m.0.0.1.0, m.0.0.1.1), m.0.1) in
-    subst (λ (z : (List ℕ × ℕ × Outcome) × List ℕ). IsName z.0.0) (same_Some whole (t, rest) m.2) named
+tested_named has_staff bytes t rest bs e =
+    let m = bind_some (both_at name_at (both_at byte_at (both_at (staff_at has_staff) outcome_at)) bytes) (λ x. Some ((x.0.0, x.0.1.0, x.0.1.1.0, x.0.1.1.1), x.1)) (t, rest) e in
+    let p = both_reads name_at (both_at byte_at (both_at (staff_at has_staff) outcome_at)) bytes m.0.0 m.0.1 m.1 in
+    let q = both_reads byte_at (both_at (staff_at has_staff) outcome_at) p.0 m.0.0.1 m.0.1 p.2 in
+    let o = both_reads (staff_at has_staff) outcome_at q.0 m.0.0.1.1 m.0.1 q.2 in
+    let bs1 : IsBytes p.0 = IsBytes-rest bytes (name_bytes m.0.0.0) p.0 bs (name_reader.takes bytes m.0.0.0 p.0 bs p.1) in
+    let bs2 : IsBytes q.0 = IsBytes-rest p.0 (m.0.0.1.0 ∷ []) q.0 bs1 (byte_reader.takes p.0 m.0.0.1.0 q.0 bs1 q.1) in
+    let serial : IsName m.0.0.0 = name_is bytes m.0.0.0 p.0 bs p.1 in
+    let staff : NamesStaff has_staff m.0.0.1.1.0 = staff_named has_staff q.0 m.0.0.1.1.0 o.0 bs2 o.1 in
+    let whole : (List ℕ × ℕ × Option Staff × Outcome) × List ℕ = ((m.0.0.0, m.0.0.1.0, m.0.0.1.1.0, m.0.0.1.1.1), m.0.1) in
+    subst (λ (z : (List ℕ × ℕ × Option Staff × Outcome) × List ℕ). IsName z.0.0 × NamesStaff has_staff z.0.2) (same_Some whole (t, rest) m.2) (serial, staff)

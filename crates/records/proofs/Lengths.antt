@@ -1,13 +1,13 @@
 -- Records are short.
-use Rattle.std.proofs.Common.{◌≡◌, ℕ, ◌+◌, ◌*◌, ◌^◌, ◌<◌, ◌≤◌, ◌&&◌, nat_le, List, [], ◌∷◌, ◌++◌, length, Option, None, Some, refl, arith, length-append}
+use Rattle.std.proofs.Common.{◌≡◌, ℕ, ◌+◌, ◌*◌, ◌^◌, ◌<◌, ◌≤◌, ◌&&◌, nat_le, List, [], ◌∷◌, ◌++◌, length, Option, None, Some, IfSome, refl, arith, length-append}
 use Rattle.std.specs.List.{flat_map, list_all}
 use Rattle.std.specs.Char.{is_ascii_alphanumeric}
 use Rattle.std.proofs.lemmas.Bool.{and_parts, leb-true}
 use Rattle.std.proofs.lemmas.List.Sums.{sum_by-cons}
 use Rattle.partition.specs.Names.{IsName, is_name_byte}
-use Rattle.partition.specs.declared.difference.Piece.{Piece}
-use Rattle.partition.specs.declared.difference.Short.{Short}
-use Rattle.partition.specs.declared.difference.Difference.{Difference}
+use Rattle.difference.specs.declared.wiring.Piece.{Piece}
+use Rattle.difference.specs.declared.wiring.Short.{Short}
+use Rattle.difference.specs.declared.wiring.Difference.{Difference}
 use Rattle.wirelist.specs.declared.faults.PartFault.{PartFault}
 use Rattle.wirelist.specs.declared.faults.PartFaultKind.{PartFaultKind}
 use Rattle.wirelist.specs.declared.faults.PartFaultKind.TheVariants.{Low, High, OpenPart, WrongWay, Leaky}
@@ -17,13 +17,15 @@ use Rattle.wirelist.specs.declared.outcome.Outcome.TheVariants.{Pass, Wiring, Pa
 use Rattle.wirelist.specs.declared.program.Program.{Program}
 use Rattle.wirelist.specs.Canonical.{canonical}
 use Rattle.wirelist.specs.Programs.{IsProgram}
-use Rattle.wirelist.specs.Ranges.{piece_points, short_nets, DifferenceInRange, OutcomeInRange}
+use Rattle.difference.specs.DifferenceRanges.{piece_points, short_nets}
+use Rattle.wirelist.specs.Ranges.{most_points, DifferenceInRange, OutcomeInRange}
 use Rattle.printed_rows.proofs.Lengths.{canonical_short}
+use Rattle.records.specs.declared.record.Staff.{Staff}
 use Rattle.records.specs.declared.record.Body.{Body}
-use Rattle.records.specs.declared.record.Body.TheVariants.{Adopt, Enrol, Calibrate, Tested, Rework, Release, Scrap}
+use Rattle.records.specs.declared.record.Body.TheVariants.{Adopt, Enrol, Calibrate, Tested, Rework, Release, Scrap, Mark}
 use Rattle.records.specs.declared.record.StationRecord.{StationRecord}
-use Rattle.records.specs.RecordBytes.{two_bytes, counted, piece_bytes, short_bytes, difference_bytes, kind_bytes, part_fault_bytes, leak_bytes, leak_fault_bytes, outcome_bytes, body_bytes, record_bytes}
-use Rattle.records.specs.RecordRanges.{IsBody, IsRecord, most_bytes}
+use Rattle.records.specs.RecordBytes.{two_bytes, counted, piece_bytes, short_bytes, difference_bytes, kind_bytes, part_fault_bytes, leak_bytes, leak_fault_bytes, outcome_bytes, name_bytes, staff_bytes, body_bytes, record_bytes}
+use Rattle.records.specs.RecordRanges.{IsStaff, IsBody, IsRecord, most_bytes}
 
 -- a program's text has fewer than 2^32 bytes
 pub text_short : (p : Program) → IsProgram p → length (canonical p) < 2 ^ 32
@@ -70,7 +72,7 @@ counted_length : {X : Type 0} (bytes : X → List ℕ) (xs : List X) → length 
 unfolding counted
 counted_length bytes xs = omega arith
 
-difference_few : (d : Difference) → DifferenceInRange d → length (difference_bytes d) ≤ 20486
+difference_few : (d : Difference) → DifferenceInRange d → length (difference_bytes d) ≤ 20 * most_points + 6
 difference_few d fits =
     let opens = pieces_length d.opens in
     let shorts = shorts_length d.shorts in
@@ -114,7 +116,7 @@ leak_faults_length (f ∷ fs) =
     let one = leak_length f.reading in
     omega (arith, length-append (leak_fault_bytes f) (flat_map leak_fault_bytes fs))
 
-outcome_few : (o : Outcome) → OutcomeInRange o → length (outcome_bytes o) ≤ 20500
+outcome_few : (o : Outcome) → OutcomeInRange o → length (outcome_bytes o) ≤ 20 * most_points + 14
 unfolding counted
 outcome_few Pass fits = omega arith
 outcome_few (Wiring d) fits = let few = difference_few d fits in omega arith
@@ -124,17 +126,26 @@ outcome_few (Withstand bit volts leak) fits = let last = leak_length leak in ome
 
 -- ---- records
 
-body_few : (b : Body) → IsBody b → length (body_bytes b) ≤ 153979
+staff_few : (staff : Option Staff) → IfSome staff IsStaff → length (staff_bytes staff) ≤ 50
+staff_few None fits = omega arith
+staff_few (Some staff) fits =
+    let operator = name_few staff.operator fits.operator in
+    let fixture = name_few staff.fixture fits.fixture in
+    omega (arith, length-append staff.operator (name_bytes staff.fixture))
+
+body_few : (b : Body) → IsBody b → length (body_bytes b) ≤ 200004
 body_few (Adopt p) fits = let few = canonical_short p fits in omega arith
 body_few (Enrol serial) fits = let few = name_few serial fits in omega arith
 body_few (Calibrate day) fits = omega arith
-body_few (Tested serial attempt outcome) fits =
+body_few (Tested serial attempt staff outcome) fits =
     let few = name_few serial fits.serial in
+    let names = staff_few staff fits.staff in
     let most = outcome_few outcome fits.outcome in
-    omega (arith, length-append serial (attempt ∷ outcome_bytes outcome))
+    omega (arith, length-append serial (attempt ∷ (staff_bytes staff ++ outcome_bytes outcome)), length-append (staff_bytes staff) (outcome_bytes outcome))
 body_few (Rework serial) fits = let few = name_few serial fits in omega arith
 body_few (Release serial) fits = let few = name_few serial fits in omega arith
 body_few (Scrap serial) fits = let few = name_few serial fits in omega arith
+body_few Mark fits = omega arith
 
 -- so an entry of the journal has room for a record
 pub record_few : (r : StationRecord) → IsRecord r → length (record_bytes r) ≤ most_bytes

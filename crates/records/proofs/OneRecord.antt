@@ -1,11 +1,11 @@
 -- No bytes spell two records.
-use Rattle.std.proofs.Common.{◌≡◌, ℕ, List, [], length, refl, sym, ap, ◌∙◌}
+use Rattle.std.proofs.Common.{◌≡◌, ℕ, true, false, List, [], length, None, Some, refl, sym, ap, ◌∙◌}
 use Rattle.std.proofs.lemmas.Option.{some_pair_parts}
 use Rattle.wirelist.specs.declared.program.Program.{Program}
 use Rattle.wirelist.specs.Canonical.{canonical}
 use Rattle.wirelist.specs.Programs.{IsProgram}
 use Rattle.records.specs.declared.record.Body.{Body}
-use Rattle.records.specs.declared.record.Body.TheVariants.{Adopt, Enrol, Calibrate, Tested, Rework, Release, Scrap}
+use Rattle.records.specs.declared.record.Body.TheVariants.{Adopt, Enrol, Calibrate, Tested, Rework, Release, Scrap, Mark}
 use Rattle.records.specs.declared.record.StationRecord.{StationRecord}
 use Rattle.records.specs.Laws.{SpellingLaw}
 use Rattle.records.specs.RecordBytes.{kind_of, program_bytes, body_bytes, record_bytes}
@@ -15,7 +15,7 @@ use Rattle.records.proofs.Readers.{IsReader, name_reader, number32}
 use Rattle.records.proofs.Decoding.{reads_whole, day_reader, tested_reader}
 use Rattle.records.proofs.Lengths.{text_short}
 use Rattle.records.proofs.Texts.{one_text}
-use Rattle.records.proofs.Bodies.{IsKind, adopt_kind, enrol_kind, calibrate_kind, tested_kind, rework_kind, release_kind, scrap_kind, header_of, header_there, program_there}
+use Rattle.records.proofs.Bodies.{IsKind, adopt_kind, enrol_kind, calibrate_kind, tested_kind, rework_kind, release_kind, scrap_kind, mark_kind, header_of, header_there, program_there}
 
 -- a spelling that can be read is that of one value
 one_value : {X : Type 0} {F : X → Type 0} {s : X → List ℕ} {r : Reader X} → IsReader F s r → (x y : X) → F x → F y → s x ≡ s y → x ≡ y
@@ -40,10 +40,12 @@ one_body : (b c : Body) → IsBody b → IsBody c → kind_of b ≡ kind_of c �
 one_body (Adopt p) c fb fc kinds same = one_of_kind adopt_kind one_program (Adopt p) c fb fc refl kinds same
 one_body (Enrol serial) c fb fc kinds same = one_of_kind enrol_kind (one_value name_reader) (Enrol serial) c fb fc refl kinds same
 one_body (Calibrate day) c fb fc kinds same = one_of_kind calibrate_kind (one_value day_reader) (Calibrate day) c fb fc refl kinds same
-one_body (Tested serial attempt outcome) c fb fc kinds same = one_of_kind tested_kind (one_value tested_reader) (Tested serial attempt outcome) c fb fc refl kinds same
+one_body (Tested serial attempt None outcome) c fb fc kinds same = one_of_kind (tested_kind false) (one_value (tested_reader false)) (Tested serial attempt None outcome) c fb fc refl kinds same
+one_body (Tested serial attempt (Some staff) outcome) c fb fc kinds same = one_of_kind (tested_kind true) (one_value (tested_reader true)) (Tested serial attempt (Some staff) outcome) c fb fc refl kinds same
 one_body (Rework serial) c fb fc kinds same = one_of_kind rework_kind (one_value name_reader) (Rework serial) c fb fc refl kinds same
 one_body (Release serial) c fb fc kinds same = one_of_kind release_kind (one_value name_reader) (Release serial) c fb fc refl kinds same
 one_body (Scrap serial) c fb fc kinds same = one_of_kind scrap_kind (one_value name_reader) (Scrap serial) c fb fc refl kinds same
+one_body Mark c fb fc kinds same = one_of_kind mark_kind (λ x y fx fy same. refl) Mark c fb fc refl kinds same
 
 pub one_record : SpellingLaw
 one_record r s fr fs same =

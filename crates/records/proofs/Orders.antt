@@ -1,13 +1,14 @@
 -- Each item stands before each later one, where each stands before the next.
-use Rattle.std.proofs.Common.{◌≡◌, ◌↔◌, ℕ, Bool, false, IsTrue, zero, suc, [], ◌∷◌, All, AllPairs, ◌+◌, ◌-◌, ◌<◌, ◌≤◌, inl, inr, List, length, get_or, slice_index, slice_index_or, refl, subst, ◌∙◌, arith}
+use Rattle.std.proofs.Common.{◌≡◌, ◌↔◌, ℕ, Bool, false, IsTrue, zero, suc, [], ◌∷◌, All, AllPairs, ◌+◌, ◌-◌, ◌*◌, ◌<◌, ◌≤◌, inl, inr, List, length, get_or, slice_index, slice_index_or, refl, subst, ◌∙◌, arith}
 use Rattle.std.proofs.lemmas.List.{get_or_default}
 use Rattle.std.proofs.lemmas.Bool.{cases_lt}
 use Rattle.std.proofs.lemmas.List.Kept.{AllPairs-from_increasing}
 use Rattle.std.proofs.lemmas.List.Sums.{sum_by-le}
 use Rattle.std.specs.List.Sorted.{IsStrictlyIncreasing}
-use Rattle.partition.specs.declared.difference.Piece.{Piece}
-use Rattle.partition.specs.declared.difference.Short.{Short}
-use Rattle.wirelist.specs.Ranges.{most_points, PieceInRange, ShortInRange, PiecesInRange, ShortsInRange, piece_points, short_nets}
+use Rattle.difference.specs.declared.wiring.Piece.{Piece}
+use Rattle.difference.specs.declared.wiring.Short.{Short}
+use Rattle.difference.specs.DifferenceRanges.{piece_points, short_nets}
+use Rattle.wirelist.specs.Ranges.{most_points, PieceInRange, ShortInRange, PiecesInRange, ShortsInRange}
 
 -- one item more
 pub one_more : {X : Type 0} (R : X → X → Type 0) (trans : (x y z : X) → R x y → R y z → R x z) (xs : List X) (i : ℕ) (before here : X)
@@ -41,8 +42,8 @@ at_least_its_place xs up (suc k) lt =
     let same : k + 1 ≡ suc k = omega arith in
     subst (λ (m : ℕ). m ≤ slice_index xs m) same (omega arith)
 
--- numbers below 1,024 that ascend are at most 1,024
-pub few_increasing : (xs : List ℕ) → All (λ p. p < most_points) xs → IsStrictlyIncreasing xs → length xs ≤ 1024
+-- numbers below the limit that ascend are no more than it
+pub few_increasing : (xs : List ℕ) → All (λ p. p < most_points) xs → IsStrictlyIncreasing xs → length xs ≤ most_points
 few_increasing [] all up = omega arith
 few_increasing (x ∷ xs) all up =
     let last = at_least_its_place (x ∷ xs) up (length xs) (omega arith) in
@@ -50,26 +51,26 @@ few_increasing (x ∷ xs) all up =
     omega arith
 
 -- so is the number of points of each piece, and of all together
-pub piece_few : (piece : Piece) → PieceInRange piece → length piece.points ≤ 1024
+pub piece_few : (piece : Piece) → PieceInRange piece → length piece.points ≤ most_points
 piece_few piece ranges = few_increasing piece.points ranges.2 ranges.3
 
-pub short_few : (short : Short) → ShortInRange short → length short.nets ≤ 1024
+pub short_few : (short : Short) → ShortInRange short → length short.nets ≤ most_points
 short_few short ranges = few_increasing short.nets ranges.1 ranges.2
 
-pub pieces_few : (pieces : List Piece) → PiecesInRange pieces → piece_points pieces ≤ 1048576
+pub pieces_few : (pieces : List Piece) → PiecesInRange pieces → piece_points pieces ≤ most_points * most_points
 pieces_few pieces ranges =
-    let most = sum_by-le (λ (x : Piece). length x.points) 1024 pieces (λ k d lt. piece_few (slice_index_or pieces k d) (ranges.1 k d lt)) in
+    let most = sum_by-le (λ (x : Piece). length x.points) most_points pieces (λ k d lt. piece_few (slice_index_or pieces k d) (ranges.1 k d lt)) in
     let few = ranges.0 in
     omega arith
 
-pub shorts_few : (shorts : List Short) → ShortsInRange shorts → short_nets shorts ≤ 1048576
+pub shorts_few : (shorts : List Short) → ShortsInRange shorts → short_nets shorts ≤ most_points * most_points
 shorts_few shorts ranges =
-    let most = sum_by-le (λ (x : Short). length x.nets) 1024 shorts (λ k d lt. short_few (slice_index_or shorts k d) (ranges.1 k d lt)) in
+    let most = sum_by-le (λ (x : Short). length x.nets) most_points shorts (λ k d lt. short_few (slice_index_or shorts k d) (ranges.1 k d lt)) in
     let few = ranges.0 in
     omega arith
 
 -- the tests of a piece, and of a short
-pub piece_is_in_range : (piece : Piece) (ordered : Bool) → piece.net < 1024 → piece.class < 1024 → 1 ≤ length piece.points
+pub piece_is_in_range : (piece : Piece) (ordered : Bool) → piece.net < most_points → piece.class < most_points → 1 ≤ length piece.points
     → IsTrue ordered ↔ (All (λ p. p < most_points) piece.points × AllPairs (λ x y. x < y) piece.points)
     → IsTrue ordered ↔ PieceInRange piece
 piece_is_in_range piece ordered net class some test = (
@@ -77,7 +78,7 @@ piece_is_in_range piece ordered net class some test = (
   λ ranges. test.1 (ranges.2, AllPairs-from_increasing piece.points ranges.3),
 )
 
-pub short_is_in_range : (short : Short) (ordered : Bool) → short.class < 1024 → 2 ≤ length short.nets
+pub short_is_in_range : (short : Short) (ordered : Bool) → short.class < most_points → 2 ≤ length short.nets
     → IsTrue ordered ↔ (All (λ p. p < most_points) short.nets × AllPairs (λ x y. x < y) short.nets)
     → IsTrue ordered ↔ ShortInRange short
 short_is_in_range short ordered class some test = (

@@ -8,7 +8,7 @@ use Rattle.wirelist.specs.declared.faults.PartFaultKind.{PartFaultKind}
 use Rattle.wirelist.specs.declared.faults.PartFaultKind.TheVariants.{Low, High, OpenPart, WrongWay, Leaky}
 use Rattle.wirelist.specs.declared.outcome.Outcome.{Outcome}
 use Rattle.wirelist.specs.declared.outcome.Outcome.TheVariants.{Pass, Wiring, Parts, Insulation, Withstand}
-use Rattle.wirelist.specs.Ranges.{PieceInRange, ShortInRange, DifferenceInRange, PartFaultInRange, KindInRange, LeakFaultInRange, IsReading, OutcomeInRange}
+use Rattle.wirelist.specs.Ranges.{most_points, PieceInRange, ShortInRange, DifferenceInRange, PartFaultInRange, KindInRange, LeakFaultInRange, IsReading, OutcomeInRange}
 use Rattle.records.specs.RecordBytes.{two_bytes, eight_bytes, counted, piece_bytes, short_bytes, difference_bytes, kind_bytes, part_fault_bytes, leak_bytes, leak_fault_bytes, outcome_bytes}
 use Rattle.records.specs.Reading.{Reader, both_at, made_at, chosen_at, byte_at, number_at, counted_at, piece_at, short_at, difference_at, kind_from, part_fault_at, leak_from, leak_at, leak_fault_at, withstand_at, tagged_at, outcome_at}
 use Rattle.records.proofs.Orders.{piece_few, short_few}
@@ -19,7 +19,7 @@ use Rattle.records.proofs.Readers.{IsBytes, IsBytes-rest, bind_some, IsReader, b
 counted16 : IsReader (Countable (λ n. n < 2 ^ 16)) (counted two_bytes) (counted_at (number_at w16))
 counted16 = counted_reader number16
 
-small : (xs : List ℕ) → length xs ≤ 1024 → All (λ p. p < 1024) xs → Countable (λ n. n < 2 ^ 16) xs
+small : (xs : List ℕ) → length xs ≤ most_points → All (λ p. p < most_points) xs → Countable (λ n. n < 2 ^ 16) xs
 small xs few all = (omega arith, λ k d lt. let below = all k d lt in omega arith)
 
 pub piece_reader : IsReader PieceInRange piece_bytes piece_at

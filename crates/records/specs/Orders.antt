@@ -1,10 +1,11 @@
 -- To stand before is transitive.
 use Rattle.std.proofs.Common.{ℕ, ◌<◌, inl, inr, arith}
-use Rattle.partition.specs.declared.difference.Piece.{Piece}
-use Rattle.partition.specs.declared.difference.Short.{Short}
+use Rattle.difference.specs.declared.wiring.Piece.{Piece}
+use Rattle.difference.specs.declared.wiring.Short.{Short}
 use Rattle.wirelist.specs.declared.faults.PartFault.{PartFault}
 use Rattle.wirelist.specs.declared.faults.LeakFault.{LeakFault}
-use Rattle.wirelist.specs.Ranges.{PieceBefore, ShortBefore, PartFaultBefore, LeakFaultBefore}
+use Rattle.difference.specs.DifferenceRanges.{PieceBefore, ShortBefore}
+use Rattle.wirelist.specs.Ranges.{PartFaultBefore, LeakFaultBefore}
 
 pub numbers_before : (x y z : ℕ) → x < y → y < z → x < z
 numbers_before x y z p q = omega arith

@@ -1,18 +1,19 @@
 -- Reading values from the front of bytes: the value and the bytes after it, or none where no value is spelled there.
 --     Gives view result read     what a function answers, seen by view, is what is read, unless memory ran out
 --     byte_at, number_at, name_at, counted_at, outcome_at     what is read at the front
-use Rattle.std.specs.Prelude.{◌≡◌, ℕ, zero, suc, ◌==◌, List, [], ◌∷◌, length, take, drop, Option, Some, None, Result, Ok, Err, nat_lt, if◌then◌else◌}
+use Rattle.std.specs.Prelude.{◌≡◌, ℕ, zero, suc, ◌==◌, Bool, true, false, List, [], ◌∷◌, length, take, drop, Option, Some, None, Result, Ok, Err, nat_lt, if◌then◌else◌}
 use Rattle.std.specs.Int.{Width, w16, w64, byte_len, from_be_bytes}
 use Rattle.partition.specs.Names.{is_name}
-use Rattle.partition.specs.declared.difference.Piece.{Piece}
-use Rattle.partition.specs.declared.difference.Short.{Short}
-use Rattle.partition.specs.declared.difference.Difference.{Difference}
+use Rattle.difference.specs.declared.wiring.Piece.{Piece}
+use Rattle.difference.specs.declared.wiring.Short.{Short}
+use Rattle.difference.specs.declared.wiring.Difference.{Difference}
 use Rattle.wirelist.specs.declared.faults.PartFault.{PartFault}
 use Rattle.wirelist.specs.declared.faults.PartFaultKind.{PartFaultKind}
 use Rattle.wirelist.specs.declared.faults.PartFaultKind.TheVariants.{Low, High, OpenPart, WrongWay, Leaky}
 use Rattle.wirelist.specs.declared.faults.LeakFault.{LeakFault}
 use Rattle.wirelist.specs.declared.outcome.Outcome.{Outcome}
 use Rattle.wirelist.specs.declared.outcome.Outcome.TheVariants.{Pass, Wiring, Parts, Insulation, Withstand}
+use Rattle.records.specs.declared.record.Staff.{Staff}
 use Rattle.records.specs.declared.stop.DecodeStop.{DecodeStop}
 use Rattle.records.specs.declared.stop.DecodeStop.TheVariants.{NotARecord, Memory}
 
@@ -130,6 +131,11 @@ outcome_at bytes = byte_at bytes >>= λ tag. tagged_at tag.0 tag.1
 unfoldable pub header_at : Reader (ℕ × ℕ × List ℕ)
 header_at = made_at (λ h. (h.0, h.1.0, h.1.1)) (both_at byte_at (both_at (number_at w64) name_at))
 
--- serial, number of the test, and outcome
-unfoldable pub tested_at : Reader (List ℕ × ℕ × Outcome)
-tested_at = made_at (λ t. (t.0, t.1.0, t.1.1)) (both_at name_at (both_at byte_at outcome_at))
+-- who made a test, and where, where a test names it
+unfoldable pub staff_at : Bool → Reader (Option Staff)
+staff_at false = λ bytes. Some (None, bytes)
+staff_at true = made_at (λ s. Some (record { operator = s.0; fixture = s.1 })) (both_at name_at name_at)
+
+-- serial, number of the test, who made it and where, and outcome
+unfoldable pub tested_at : Bool → Reader (List ℕ × ℕ × Option Staff × Outcome)
+tested_at has_staff = made_at (λ t. (t.0, t.1.0, t.1.1.0, t.1.1.1)) (both_at name_at (both_at byte_at (both_at (staff_at has_staff) outcome_at)))

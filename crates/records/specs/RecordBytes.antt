@@ -5,9 +5,9 @@
 use Rattle.std.specs.Prelude.{ℕ, List, [], ◌∷◌, ◌++◌, length, Option, Some, None}
 use Rattle.std.specs.List.{flat_map}
 use Rattle.std.specs.Int.{to_be_bytes, w16, w32, w64}
-use Rattle.partition.specs.declared.difference.Piece.{Piece}
-use Rattle.partition.specs.declared.difference.Short.{Short}
-use Rattle.partition.specs.declared.difference.Difference.{Difference}
+use Rattle.difference.specs.declared.wiring.Piece.{Piece}
+use Rattle.difference.specs.declared.wiring.Short.{Short}
+use Rattle.difference.specs.declared.wiring.Difference.{Difference}
 use Rattle.wirelist.specs.declared.faults.PartFault.{PartFault}
 use Rattle.wirelist.specs.declared.faults.PartFaultKind.{PartFaultKind}
 use Rattle.wirelist.specs.declared.faults.PartFaultKind.TheVariants.{Low, High, OpenPart, WrongWay, Leaky}
@@ -16,8 +16,9 @@ use Rattle.wirelist.specs.declared.outcome.Outcome.{Outcome}
 use Rattle.wirelist.specs.declared.outcome.Outcome.TheVariants.{Pass, Wiring, Parts, Insulation, Withstand}
 use Rattle.wirelist.specs.declared.program.Program.{Program}
 use Rattle.wirelist.specs.Canonical.{canonical}
+use Rattle.records.specs.declared.record.Staff.{Staff}
 use Rattle.records.specs.declared.record.Body.{Body}
-use Rattle.records.specs.declared.record.Body.TheVariants.{Adopt, Enrol, Calibrate, Tested, Rework, Release, Scrap}
+use Rattle.records.specs.declared.record.Body.TheVariants.{Adopt, Enrol, Calibrate, Tested, Rework, Release, Scrap, Mark}
 use Rattle.records.specs.declared.record.StationRecord.{StationRecord}
 
 -- numbers of 16, 32 and 64 bits
@@ -79,33 +80,45 @@ outcome_bytes (Parts faults) = 2 ∷ counted part_fault_bytes faults
 outcome_bytes (Insulation faults) = 3 ∷ counted leak_fault_bytes faults
 outcome_bytes (Withstand bit volts leak) = 4 ∷ bit ∷ (two_bytes volts ++ leak_bytes leak)
 
+-- a test has another kind where it names who made it and where
+abbrev pub test_kind : Option Staff → ℕ
+test_kind None = 4
+test_kind (Some staff) = 9
+
 -- the first byte of a record
 abbrev pub kind_of : Body → ℕ
 kind_of (Adopt p) = 1
 kind_of (Enrol serial) = 2
 kind_of (Calibrate day) = 3
-kind_of (Tested serial attempt outcome) = 4
+kind_of (Tested serial attempt staff outcome) = test_kind staff
 kind_of (Rework serial) = 5
 kind_of (Release serial) = 6
 kind_of (Scrap serial) = 7
+kind_of Mark = 8
 
 -- four bytes of length, and the program's canonical text
 abbrev pub program_bytes : Program → List ℕ
 program_bytes p = four_bytes (length (canonical p)) ++ canonical p
 
--- a unit's serial, the number of its test, and what was found
-abbrev pub tested_bytes : List ℕ × ℕ × Outcome → List ℕ
-tested_bytes t = name_bytes t.0 ++ (t.1 ∷ outcome_bytes t.2)
+-- who made a test, and where
+abbrev pub staff_bytes : Option Staff → List ℕ
+staff_bytes None = []
+staff_bytes (Some staff) = name_bytes staff.operator ++ name_bytes staff.fixture
+
+-- a unit's serial, the number of its test, who made it and where, and what was found
+abbrev pub tested_bytes : List ℕ × ℕ × Option Staff × Outcome → List ℕ
+tested_bytes t = name_bytes t.0 ++ (t.1 ∷ (staff_bytes t.2 ++ outcome_bytes t.3))
 
 -- the fields of each kind
 abbrev pub body_bytes : Body → List ℕ
 body_bytes (Adopt p) = program_bytes p
 body_bytes (Enrol serial) = name_bytes serial
 body_bytes (Calibrate day) = four_bytes day
-body_bytes (Tested serial attempt outcome) = tested_bytes (serial, attempt, outcome)
+body_bytes (Tested serial attempt staff outcome) = tested_bytes (serial, attempt, staff, outcome)
 body_bytes (Rework serial) = name_bytes serial
 body_bytes (Release serial) = name_bytes serial
 body_bytes (Scrap serial) = name_bytes serial
+body_bytes Mark = []
 
 -- the kind, the moment, the id, and the fields
 abbrev pub record_bytes : StationRecord → List ℕ

@@ -3,13 +3,15 @@
 --     IsRecord r          the record is in range
 --     Spells bytes r      the record is in range, and the bytes are its spelling
 --     Decodes Fits spelling bytes result      what bytes are read as
-use Rattle.std.specs.Prelude.{◌≡◌, ℕ, ◌≤◌, List, Result, Ok, Err, IfOk}
+use Rattle.std.specs.Prelude.{◌≡◌, ℕ, ◌≤◌, Bool, List, Option, is_some, Result, Ok, Err, IfOk, IfSome, ⊤}
 use Rattle.partition.specs.Names.{IsName}
 use Rattle.wirelist.specs.Ranges.{OutcomeInRange}
-use Rattle.wirelist.specs.Programs.{IsProgram, IsWithin}
+use Rattle.wirelist.specs.Numbers.{IsWithin}
+use Rattle.wirelist.specs.Programs.{IsProgram}
 use Rattle.wirelist.specs.declared.outcome.Outcome.{Outcome}
+use Rattle.records.specs.declared.record.Staff.{Staff}
 use Rattle.records.specs.declared.record.Body.{Body}
-use Rattle.records.specs.declared.record.Body.TheVariants.{Adopt, Enrol, Calibrate, Tested, Rework, Release, Scrap}
+use Rattle.records.specs.declared.record.Body.TheVariants.{Adopt, Enrol, Calibrate, Tested, Rework, Release, Scrap, Mark}
 use Rattle.records.specs.declared.record.StationRecord.{StationRecord}
 use Rattle.records.specs.declared.stop.DecodeStop.{DecodeStop}
 use Rattle.records.specs.declared.stop.DecodeStop.TheVariants.{Memory}
@@ -27,11 +29,26 @@ last_day = 2932896
 abbrev pub most_bytes : ℕ
 most_bytes = 262138
 
--- the serial, the number of the test, and what was found
-pub record IsTested (t : List ℕ × ℕ × Outcome) : Type 0 where
+-- a unit is tested at most so many times
+abbrev pub most_attempts : ℕ
+most_attempts = 9
+
+-- who made a test, and where
+pub record IsStaff (staff : Staff) : Type 0 where
+  pub operator : IsName staff.operator
+  pub fixture : IsName staff.fixture
+
+-- the serial, the number of the test, who made it and where, if that is named, and what was found
+pub record IsTested (t : List ℕ × ℕ × Option Staff × Outcome) : Type 0 where
   pub serial : IsName t.0
-  pub attempt : IsWithin 1 9 t.1
-  pub outcome : OutcomeInRange t.2
+  pub attempt : IsWithin 1 most_attempts t.1
+  pub staff : IfSome t.2 IsStaff
+  pub outcome : OutcomeInRange t.3
+
+-- a test that names who made it and where, or one that does not
+pub record IsTestedAs (has_staff : Bool) (t : List ℕ × ℕ × Option Staff × Outcome) : Type 0 where
+  pub in_range : IsTested t
+  pub names_staff : is_some t.2 ≡ has_staff
 
 -- a day from 1970-01-01 to 9999-12-31
 abbrev pub IsDay : ℕ → Type 0
@@ -42,10 +59,11 @@ abbrev pub IsBody : Body → Type 0
 IsBody (Adopt p) = IsProgram p
 IsBody (Enrol serial) = IsName serial
 IsBody (Calibrate day) = IsDay day
-IsBody (Tested serial attempt outcome) = IsTested (serial, attempt, outcome)
+IsBody (Tested serial attempt staff outcome) = IsTested (serial, attempt, staff, outcome)
 IsBody (Rework serial) = IsName serial
 IsBody (Release serial) = IsName serial
 IsBody (Scrap serial) = IsName serial
+IsBody Mark = ⊤
 
 -- the record is of the kind, and its fields are in range
 pub record IsBodyOf (kind : ℕ) (b : Body) : Type 0 where

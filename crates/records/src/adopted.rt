@@ -35,7 +35,7 @@ fn adopted(alloc: Global, text: &[u8]) -> Result<Program, DecodeStop>
         Err(refusal) => return Err(stop_of(refusal)),
     };
     let printed = print(alloc, &program)?;
-    if !are_same(printed.as_bytes(), text) {
+    if !are_same(printed.as_slice(), text) {
         return Err(DecodeStop::NotARecord);
     }
     Ok(program)
@@ -65,5 +65,5 @@ pub(crate) fn write_program(alloc: Global, program: &Program, out: &mut Bytes) -
 {
     let text = print(alloc, program)?;
     out.append(&(text.len() as u32).to_be_bytes())?;
-    out.append(text.as_bytes())
+    out.append(text.as_slice())
 }

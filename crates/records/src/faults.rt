@@ -9,6 +9,7 @@ ghost use Rattle.wirelist.specs.Ranges.{PartFaultInRange, LeakFaultInRange, Part
 use crate::DecodeStop;
 use crate::item::{Item, are_ordered};
 use crate::numbers::{u8_at, u16_at, u64_at};
+use crate::points::MOST_POINTS;
 use base::{Bytes, Memory};
 use std::alloc::Global;
 use wirelist::{LeakFault, PartFault, PartFaultKind};
@@ -20,7 +21,23 @@ const MOST_PARTS: u32 = 512;
 const MOST_CLUSTERS: u32 = 256;
 
 /// A list of faults has at most so many.
-const MOST_FAULTS: usize = 1024;
+const MOST_FAULTS: usize = MOST_POINTS as usize;
+
+// How a component is at fault, as a byte.
+const LOW: u8 = 0;
+
+const HIGH: u8 = 1;
+
+const OPEN_PART: u8 = 2;
+
+const WRONG_WAY: u8 = 3;
+
+const LEAKY: u8 = 4;
+
+// Whether a leak was an arc, as a byte.
+const ARC: u8 = 0;
+
+const CURRENT: u8 = 1;
 
 /// A faulty component: its number, a byte of kind, and the reading.
 impl Item for PartFault {
@@ -86,11 +103,11 @@ fn kind_from(tag: u8, reading: u64) -> Result<PartFaultKind, DecodeStop>
     ensures { Gives (λ x. x) result (kind_from (tag, reading)) }
 {
     match tag {
-        0 => Ok(PartFaultKind::Low(reading)),
-        1 => Ok(PartFaultKind::High(reading)),
-        2 if reading == 0 => Ok(PartFaultKind::OpenPart),
-        3 => Ok(PartFaultKind::WrongWay(reading)),
-        4 => Ok(PartFaultKind::Leaky(reading)),
+        LOW => Ok(PartFaultKind::Low(reading)),
+        HIGH => Ok(PartFaultKind::High(reading)),
+        OPEN_PART if reading == 0 => Ok(PartFaultKind::OpenPart),
+        WRONG_WAY => Ok(PartFaultKind::WrongWay(reading)),
+        LEAKY => Ok(PartFaultKind::Leaky(reading)),
         _ => Err(DecodeStop::NotARecord),
     }
 }
@@ -100,11 +117,11 @@ fn write_kind(kind: PartFaultKind, out: &mut Bytes) -> Result<(), Memory>
     ensures { OnOk result (out.new ≡ out.old ++ kind_bytes kind) }
 {
     let (tag, reading): (u8, u64) = match kind {
-        PartFaultKind::Low(reading) => (0, reading),
-        PartFaultKind::High(reading) => (1, reading),
-        PartFaultKind::OpenPart => (2, 0),
-        PartFaultKind::WrongWay(reading) => (3, reading),
-        PartFaultKind::Leaky(reading) => (4, reading),
+        PartFaultKind::Low(reading) => (LOW, reading),
+        PartFaultKind::High(reading) => (HIGH, reading),
+        PartFaultKind::OpenPart => (OPEN_PART, 0),
+        PartFaultKind::WrongWay(reading) => (WRONG_WAY, reading),
+        PartFaultKind::Leaky(reading) => (LEAKY, reading),
     };
     out.push(tag)?;
     out.append(&reading.to_be_bytes())
@@ -167,8 +184,8 @@ fn leak_from(tag: u8, reading: u64) -> Result<Option<u64>, DecodeStop>
     ensures { Gives (λ x. x) result (leak_from (tag, reading)) }
 {
     match tag {
-        0 if reading == 0 => Ok(None),
-        1 => Ok(Some(reading)),
+        ARC if reading == 0 => Ok(None),
+        CURRENT => Ok(Some(reading)),
         _ => Err(DecodeStop::NotARecord),
     }
 }
@@ -179,11 +196,11 @@ pub(crate) fn write_leak(leak: Option<u64>, out: &mut Bytes) -> Result<(), Memor
 {
     match leak {
         None => {
-            out.push(0)?;
+            out.push(ARC)?;
             out.append(&0u64.to_be_bytes())
         }
         Some(reading) => {
-            out.push(1)?;
+            out.push(CURRENT)?;
             out.append(&reading.to_be_bytes())
         }
     }

@@ -2,6 +2,8 @@
 //!
 //! - A [`StationRecord`] has an id, a moment and a [`Body`]. specs/RecordBytes.antt spells each record, specs/RecordRanges.antt
 //!   says which records have a spelling.
+//! - A test may name its [`Staff`], who made it and where. A [`Body::Mark`] says that from there on tests do.
+//! - [`RecordList`] is a list of records; a contract sees just the list. A call that is refused leaves it as it was.
 //! - [`encode`] gives the spelling of a record, [`decode`] the record of a spelling: it refuses exactly the bytes that spell none.
 //! - [`laws`] says that no bytes spell two records.
 #![tactic(auto)]
@@ -11,6 +13,7 @@ mod body;
 mod faults;
 mod item;
 pub mod laws;
+mod list;
 mod numbers;
 mod outcome;
 mod points;
@@ -19,7 +22,8 @@ mod spelling;
 mod stop;
 mod wiring;
 
-pub use record::{Body, StationRecord};
+pub use list::RecordList;
+pub use record::{Body, Staff, StationRecord};
 pub use spelling::{decode, encode};
 pub use stop::DecodeStop;
 

@@ -14,6 +14,25 @@ use base::{Bytes, Memory};
 use std::alloc::Global;
 use wirelist::{LeakFaults, Outcome, PartFaults};
 
+// The first byte of each outcome.
+const PASS: u8 = 0;
+
+const WIRING: u8 = 1;
+
+const PARTS: u8 = 2;
+
+const INSULATION: u8 = 3;
+
+const WITHSTAND: u8 = 4;
+
+/// Bits of the numbers of clusters are counted below this.
+const MOST_BITS: u8 = 12;
+
+// A voltage is a multiple of the step, from one step to the last voltage.
+const STEP_VOLTS: u16 = 50;
+
+const MOST_VOLTS: u16 = 2000;
+
 /// The outcome at the front, whatever its ranges, and what follows it.
 #[tactic(auto, unfolding(crate::specs::Reading::outcome_at))]
 pub(crate) fn outcome_of(alloc: Global, bytes: &[u8]) -> Result<(Outcome, &[u8]), DecodeStop>
@@ -29,20 +48,20 @@ fn tagged_of(alloc: Global, tag: u8, bytes: &[u8]) -> Result<(Outcome, &[u8]), D
     ensures { Gives (λ x. (x.0, x.1.now)) result (tagged_at tag bytes.now) }
 {
     match tag {
-        0 => Ok((Outcome::Pass, bytes)),
-        1 => {
+        PASS => Ok((Outcome::Pass, bytes)),
+        WIRING => {
             let (difference, rest) = difference_of(alloc, bytes)?;
             Ok((Outcome::Wiring(difference), rest))
         }
-        2 => {
+        PARTS => {
             let (faults, rest) = counted_of(alloc, bytes)?;
             Ok((Outcome::Parts(PartFaults::from_vec(faults)), rest))
         }
-        3 => {
+        INSULATION => {
             let (faults, rest) = counted_of(alloc, bytes)?;
             Ok((Outcome::Insulation(LeakFaults::from_vec(faults)), rest))
         }
-        4 => withstand_of(bytes),
+        WITHSTAND => withstand_of(bytes),
         _ => Err(DecodeStop::NotARecord),
     }
 }
@@ -64,21 +83,21 @@ pub(crate) fn write_outcome(outcome: &Outcome, out: &mut Bytes) -> Result<(), Me
     ensures { OnOk result (out.new ≡ out.old ++ outcome_bytes outcome.now) }
 {
     match outcome {
-        Outcome::Pass => out.push(0),
+        Outcome::Pass => out.push(PASS),
         Outcome::Wiring(difference) => {
-            out.push(1)?;
+            out.push(WIRING)?;
             write_difference(difference, out)
         }
         Outcome::Parts(faults) => {
-            out.push(2)?;
+            out.push(PARTS)?;
             write_counted(faults.as_slice(), out)
         }
         Outcome::Insulation(faults) => {
-            out.push(3)?;
+            out.push(INSULATION)?;
             write_counted(faults.as_slice(), out)
         }
         Outcome::Withstand { bit, volts, leak } => {
-            out.push(4)?;
+            out.push(WITHSTAND)?;
             out.push(*bit)?;
             out.append(&volts.to_be_bytes())?;
             write_leak(*leak, out)
@@ -99,7 +118,7 @@ pub(crate) fn is_in_range(outcome: &Outcome) -> bool
             if let Some(leak) = *leak {
                 reading_fits(leak);
             }
-            *bit < 10 && is_test_voltage(*volts)
+            *bit < MOST_BITS && is_test_voltage(*volts)
         }
     }
 }
@@ -108,8 +127,8 @@ pub(crate) fn is_in_range(outcome: &Outcome) -> bool
 fn is_test_voltage(volts: u16) -> bool
     ensures { IsTrue result ↔ IsTestVoltage volts }
 {
-    if volts < 50 || volts > 2000 {
+    if volts < STEP_VOLTS || volts > MOST_VOLTS {
         return false;
     }
-    volts % 50 == 0
+    volts % STEP_VOLTS == 0
 }

@@ -15,7 +15,7 @@ use partition::Point;
 use std::alloc::Global;
 
 /// Points, nets and classes are numbered below this.
-pub(crate) const MOST_POINTS: u32 = 1024;
+pub(crate) const MOST_POINTS: u32 = 4096;
 
 /// A point of a piece, in two bytes.
 impl Item for Point {

@@ -3,6 +3,13 @@
 use partition::Name;
 use wirelist::{Outcome, Program};
 
+/// Who made a test, and where.
+#[derive(Clone, Copy, Debug)]
+pub struct Staff {
+    pub operator: Name,
+    pub fixture: Name,
+}
+
 /// What a record keeps beside its id and its moment.
 #[derive(Debug, Drop)]
 pub enum Body {
@@ -12,10 +19,11 @@ pub enum Body {
     Enrol(Name),
     /// The last day of the calibration, from 1970-01-01.
     Calibrate(u32),
-    /// The serial of a unit that was tested, the number of its test, from 1, and what was found.
+    /// The serial of a unit that was tested, the number of its test, from 1, who made it and where, and what was found.
     Tested {
         serial: Name,
         attempt: u8,
+        staff: Option<Staff>,
         outcome: Outcome,
     },
     /// The serial of a unit that was reworked.
@@ -24,6 +32,8 @@ pub enum Body {
     Release(Name),
     /// The serial of a unit that was scrapped.
     Scrap(Name),
+    /// From here on a test names who made it and where.
+    Mark,
 }
 
 /// A record of the journal. `moment` counts seconds from the beginning of 1970.

@@ -4,7 +4,7 @@ ghost use Rattle.std.specs.Prelude.{◌<◌, length};
 
 use crate::{Body, DecodeStop, StationRecord, decode, encode};
 use base::Text;
-use partition::{Piece, Short};
+use difference::{Piece, Short};
 use std::alloc::Global;
 use std::test::Fail;
 use wirelist::{LeakFault, Outcome, PartFault, PartFaultKind};
@@ -16,6 +16,10 @@ const ENROLLED: &[u8] = b"\x02\0\0\0\0\x66\x31\x86\0\x02E1\x03SN1";
 const CALIBRATED: &[u8] = b"\x03\0\0\0\0\x66\x31\x86\0\x02C1\0\0\x4d\xc0";
 
 const PASSED: &[u8] = b"\x04\0\0\0\0\x66\x31\x86\0\x02T1\x03SN1\x01\0";
+
+const STAFFED: &[u8] = b"\x09\0\0\0\0\x66\x31\x86\0\x02S1\x03SN1\x01\x03OP7\x03FX2\0";
+
+const MARKED: &[u8] = b"\x08\0\0\0\0\x66\x31\x86\0\x02M1";
 
 const ADOPTED: &[u8] =
     b"\x01\0\0\0\0\x66\x31\x86\0\x02A1\0\0\0\x32part,P1,1\npoints,5\nnet,A,0,1\nnet,B,2,3\nattempts,3\n";
@@ -57,9 +61,17 @@ fn record_text(alloc: Global, record: &StationRecord) -> Result<Text, Fail> {
         Body::Tested {
             serial,
             attempt,
+            staff,
             outcome,
         } => {
             text.push_str(format!(in alloc; "test {} {attempt}", serial.text())?.as_str())?;
+            if let Some(staff) = staff {
+                text.push_str(format!(in alloc;
+                    " by {} on {}",
+                    staff.operator.text(),
+                    staff.fixture.text()
+                )?.as_str())?;
+            }
             push_outcome(alloc, &mut text, outcome)?
         }
         Body::Rework(serial) => {
@@ -71,6 +83,7 @@ fn record_text(alloc: Global, record: &StationRecord) -> Result<Text, Fail> {
         Body::Scrap(serial) => {
             text.push_str(format!(in alloc; "scrap {}", serial.text())?.as_str())?
         }
+        Body::Mark => text.push_str("mark")?,
     }
     Ok(text)
 }
@@ -151,6 +164,8 @@ fn each_kind_is_read_and_written(rt: HostRuntime) -> Result<(), Fail> {
         (ENROLLED, 16, "E1 1714521600 enrol SN1"),
         (CALIBRATED, 16, "C1 1714521600 calibrate 19904"),
         (PASSED, 18, "T1 1714521600 test SN1 1 pass"),
+        (STAFFED, 26, "S1 1714521600 test SN1 1 by OP7 on FX2 pass"),
+        (MARKED, 12, "M1 1714521600 mark"),
         (
             b"\x05\0\0\0\x3a\xff\xf4\x41\x7f\x01r\x01u",
             13,
@@ -179,8 +194,8 @@ fn each_outcome_is_read_and_written(rt: HostRuntime) -> Result<(), Fail> {
             "T1 1714521600 test SN1 1 opens shorts miswires",
         ),
         (
-            b"\x01\0\x02\0\x01\0\x04\0\x02\0\x04\x03\xff\0\x01\x01\0\0\x01\0\0\0\x01\0\0\0\x02\0\0\x03\xff\0\0",
-            "T1 1714521600 test SN1 1 opens 1@4,4,1023 1@256,0 shorts @0,0,1023 miswires",
+            b"\x01\0\x02\0\x01\0\x04\0\x02\0\x04\x0f\xff\0\x01\x01\0\0\x01\0\0\0\x01\0\0\0\x02\0\0\x0f\xff\0\0",
+            "T1 1714521600 test SN1 1 opens 1@4,4,4095 1@256,0 shorts @0,0,4095 miswires",
         ),
         (
             b"\x02\0\x03\0\0\0\0\0\0\0\0\0\x23\x28\0\x03\x02\0\0\0\0\0\0\0\0\x01\xff\x04\xff\xff\xff\xff\xff\xff\xff\xff",
@@ -199,8 +214,8 @@ fn each_outcome_is_read_and_written(rt: HostRuntime) -> Result<(), Fail> {
             "T1 1714521600 test SN1 1 withstand 2 500 None",
         ),
         (
-            b"\x04\x09\x07\xd0\x01\0\0\0\0\0\0\x01\0",
-            "T1 1714521600 test SN1 1 withstand 9 2000 Some(256)",
+            b"\x04\x0b\x07\xd0\x01\0\0\0\0\0\0\x01\0",
+            "T1 1714521600 test SN1 1 withstand 11 2000 Some(256)",
         ),
     ];
     for (outcome, text) in rows {
@@ -215,6 +230,11 @@ fn what_is_out_of_range_is_no_record(rt: HostRuntime) -> Result<(), Fail> {
         b"".as_slice(),
         b"\0\0\0\0\0\0\0\0\0\x01r\x01u",
         b"\x08\0\0\0\0\0\0\0\0\x01r\x01u",
+        b"\x08\0\0\0\0\0\0\0\0\x01r\0",
+        b"\x09\0\0\0\0\0\0\0\0\x01r\x01u\x01\0",
+        b"\x09\0\0\0\0\0\0\0\0\x01r\x01u\x01\x01o\0",
+        b"\x09\0\0\0\0\0\0\0\0\x01r\x01u\x01\x01o\x01-\0",
+        b"\x04\0\0\0\0\0\0\0\0\x01r\x01u\x01\x01o\x01f\0",
         b"\x02\0\0\0\x3a\xff\xf4\x41\x80\x01r\x01u",
         b"\x02\0\0\0\0\0\0\0\0\x01-\x01u",
         b"\x02\0\0\0\0\0\0\0\0\x01r\0",
@@ -270,9 +290,9 @@ fn an_outcome_out_of_range_is_in_no_record(rt: HostRuntime) -> Result<(), Fail> 
     let rows = [
         b"\x05".as_slice(),
         b"\x01\0\x01\0\0\0\0\0\0\0\0\0\0",
-        b"\x01\0\x01\x04\0\0\0\0\x01\0\0\0\0\0\0",
-        b"\x01\0\x01\0\0\x04\0\0\x01\0\0\0\0\0\0",
-        b"\x01\0\x01\0\0\0\0\0\x01\x04\0\0\0\0\0",
+        b"\x01\0\x01\x10\0\0\0\0\x01\0\0\0\0\0\0",
+        b"\x01\0\x01\0\0\x10\0\0\x01\0\0\0\0\0\0",
+        b"\x01\0\x01\0\0\0\0\0\x01\x10\0\0\0\0\0",
         b"\x01\0\x01\0\0\0\0\0\x02\0\x01\0\x01\0\0\0\0",
         b"\x01\0\x02\0\0\0\0\0\x01\0\x01\0\0\0\0\0\x01\0\x02\0\0\0\0",
         b"\x01\0\0\0\x01\0\0\0\x01\0\0\0\0",
@@ -286,7 +306,7 @@ fn an_outcome_out_of_range_is_in_no_record(rt: HostRuntime) -> Result<(), Fail> 
         b"\x03\0\x01\x01\0\0\0\0\0\0\0\0\0\0",
         b"\x03\0\x01\0\0\0\0\0\0\0\0\0\0\x01",
         b"\x03\0\x01\0\0\x02\0\0\0\0\0\0\0\0",
-        b"\x04\x0a\x01\xf4\0\0\0\0\0\0\0\0\0",
+        b"\x04\x0c\x01\xf4\0\0\0\0\0\0\0\0\0",
         b"\x04\0\0\0\0\0\0\0\0\0\0\0\0",
         b"\x04\0\0\x4b\0\0\0\0\0\0\0\0\0",
         b"\x04\0\x08\x02\0\0\0\0\0\0\0\0\0",
@@ -351,6 +371,10 @@ fn a_cut_or_a_changed_byte_never_gives_the_same_record(rt: HostRuntime) -> Resul
     let calibrated = found_nearby(rt.alloc(), CALIBRATED)?;
     let passed = found_nearby(rt.alloc(), PASSED)?;
     let swapped = found_nearby(rt.alloc(), swapped.as_slice())?;
-    assert_eq!(rt; (calibrated, passed, swapped), (1756, 1397, 2686));
+    let staffed = found_nearby(rt.alloc(), STAFFED)?;
+    assert_eq!(rt;
+        (calibrated, passed, swapped, staffed),
+        (1756, 1397, 2746, 1771)
+    );
     Ok(())
 }

@@ -1,17 +1,19 @@
 //! How a unit is wired: pieces, shorts, and the three lists of a difference.
 
-ghost use Rattle.std.specs.Prelude.{◌≡◌, ◌++◌, ◌↔◌, ◌≤◌, IsTrue, OnOk, slice_index};
+ghost use Rattle.std.specs.Prelude.{◌≡◌, ◌++◌, ◌↔◌, ◌≤◌, ◌*◌, IsTrue, OnOk, slice_index};
 ghost use Rattle.records.specs.Orders.{pieces_before, shorts_before};
 ghost use Rattle.records.specs.Reading.{Gives, piece_at, short_at, difference_at};
 ghost use Rattle.records.specs.RecordBytes.{piece_bytes, short_bytes, difference_bytes};
-ghost use Rattle.wirelist.specs.Ranges.{PieceInRange, ShortInRange, PieceBefore, ShortBefore, PiecesInRange, ShortsInRange, DifferenceInRange, piece_points, short_nets};
+ghost use Rattle.difference.specs.DifferenceRanges.{PieceBefore, ShortBefore, piece_points, short_nets};
+ghost use Rattle.wirelist.specs.Ranges.{most_points, PieceInRange, ShortInRange, PiecesInRange, ShortsInRange, DifferenceInRange};
 
 use crate::DecodeStop;
 use crate::item::{Item, are_ordered, counted_of, write_counted};
 use crate::numbers::u16_at;
 use crate::points::MOST_POINTS;
 use base::{Bytes, Memory};
-use partition::{Difference, NetNumbers, Piece, Pieces, Point, PointList, Short, Shorts};
+use difference::{Difference, Piece, Pieces, Short, Shorts};
+use partition::{NetNumbers, Point, PointList};
 use std::alloc::Global;
 
 /// A piece: its net, its class, and its counted points.
@@ -157,7 +159,7 @@ pub(crate) fn is_difference(difference: &Difference) -> bool
 fn points_of(pieces: &[Piece]) -> u64
     requires { PiecesInRange pieces.now }
     ensures total { result ≡ piece_points pieces.now }
-    ensures few { result ≤ 1048576 }
+    ensures few { result ≤ most_points * most_points }
 {
     let mut points = 0;
     for piece in pieces {

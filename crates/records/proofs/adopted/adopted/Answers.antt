@@ -8,9 +8,9 @@ returns-in-Err c = refused_is_none c.args.text.now c.read.result c.in-Err.refusa
 pub returns-then-not-are_same : goal.returns-then-not-are_same
 returns-then-not-are_same c =
     other_is_none c.args.text.now c.read.result c.in-Ok.program c.read.ensures.printed c.in-Ok.is
-    (λ same. let yes = c.are_same.ensures.1 (c.as_bytes.ensures ∙ c.in_ok-printed.ensures ∙ same) in let other = c.if-not-are_same.true in cc)
+    (λ same. let yes = c.are_same.ensures.1 (c.as_slice.ensures ∙ c.in_ok-printed.ensures ∙ same) in let other = c.if-not-are_same.true in cc)
 
 pub returns : goal.returns
 returns c =
     same_is_found c.args.text.now c.read.result c.in-Ok.program c.read.ensures.printed c.in-Ok.is c.in-Ok.ensures.valid
-    (sym c.in_ok-printed.ensures ∙ sym c.as_bytes.ensures ∙ c.are_same.ensures.0 (let same = c.if-not-are_same.false in cc))
+    (sym c.in_ok-printed.ensures ∙ sym c.as_slice.ensures ∙ c.are_same.ensures.0 (let same = c.if-not-are_same.false in cc))

@@ -1,6 +1,6 @@
 use Rattle.std.proofs.Common.{arith, ap, length}
 use Rattle.std.proofs.lemmas.List.Sums.{sum_by_more_le}
-use Rattle.partition.specs.declared.difference.Short.{Short}
+use Rattle.difference.specs.declared.wiring.Short.{Short}
 use Rattle.records.proofs.Orders.{shorts_few}
 use Rattle.records.proofs.wiring.nets_of.Goals as goal
 

@@ -1,6 +1,6 @@
 use Rattle.std.proofs.Common.{arith, ap, length}
 use Rattle.std.proofs.lemmas.List.Sums.{sum_by_more_le, sum_by-take-le}
-use Rattle.partition.specs.declared.difference.Piece.{Piece}
+use Rattle.difference.specs.declared.wiring.Piece.{Piece}
 use Rattle.records.proofs.Orders.{pieces_few}
 use Rattle.records.proofs.wiring.points_of.Goals as goal
 
