@@ -1,0 +1,14 @@
+pub mod Allowed
+pub mod Climbing
+pub mod Held
+pub mod Resting
+pub mod NotCharged
+pub mod Together
+pub mod InOrder
+pub mod Counted
+pub mod Parts
+pub mod Turns
+pub mod Stood
+pub mod Runs
+pub mod LeakEach
+pub mod EnduredEach

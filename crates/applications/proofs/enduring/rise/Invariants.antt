@@ -1,0 +1,6 @@
+use Rattle.std.proofs.Common.{◌≡◌}
+use Rattle.applications.specs.Enduring.{Risen}
+use Rattle.applications.proofs.enduring.rise.Given as goal
+
+abbrev pub invariant-loop-i : goal.invariant-loop-i
+invariant-loop-i g l = record { rose : Risen (g.R.Rig.state l.fn.live.rig) (g.R.Rig.state l.live.rig) l.i l.nanoamps; partition : l.live.partition ≡ l.fn.live.partition; permit : l.live.permit ≡ l.fn.live.permit }

@@ -1,0 +1,4 @@
+pub mod Lists
+pub mod Numbering
+pub mod Grouping
+pub mod Placing

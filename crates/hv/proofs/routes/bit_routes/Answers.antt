@@ -1,0 +1,11 @@
+use Rattle.std.proofs.Common.{map, ap, ◌∙◌}
+use Rattle.partition.specs.Classes.{points_below}
+use Rattle.cluster_groups.specs.Numbered.{Numbered}
+use Rattle.hv.specs.Routes.{numbered_sides, tested_bits}
+use Rattle.hv.proofs.Pairs.{bit_pairs-are}
+use Rattle.hv.proofs.routes.bit_routes.Goals as goal
+
+pub returns-clause-pairs : goal.returns-clause-pairs
+returns-clause-pairs c =
+    bit_pairs-are c.args.p.now c.in_ok-numbered.ensures.clusterable c.in_ok-pairs.pairs.items
+    (c.in_ok-pairs.ensures ∙ ap (λ (n : Numbered). map (numbered_sides n.numbers) (points_below (tested_bits n.count))) c.in_ok-numbered.ensures.clusters)

@@ -1,0 +1,42 @@
+use Rattle.std.proofs.Common.{arith, subst, ◌∙◌}
+use Rattle.partition.specs.NetTable.{programmed_of}
+use Rattle.rig.specs.Trail.{Determines}
+use Rattle.wirelist.specs.Clusters.{cluster_classes}
+use Rattle.applications.proofs.InOrder.{rest-zero, runs-in_order, stop-in_order, stop-zero, voltage-by}
+use Rattle.applications.proofs.Together.{IfOk-map}
+use Rattle.hv.proofs.Stand.{bits-few, under_test, withstood-range, withstood-rests, withstood-tallies}
+use Rattle.hv.proofs.Trails.{IfOk-two, not_none}
+use Rattle.hv.proofs.withstanding.withstand.Goals as goal
+
+pub returns-clause-voltage : goal.returns-clause-voltage
+returns-clause-voltage g c = λ before.
+    let classes = programmed_of c.args.p.now.nets in
+    let bonds = cluster_classes c.args.p.now in
+    let same = c.partition-partition.ensures.same ∙ c.requires.partition in
+    let determines = subst (Determines (g.R.Rig.state c.args.proven.rig)) same c.partition-partition.ensures.determines in
+    voltage-by c.stand_bits.result _ _ _ _
+    (λ done made. runs-in_order classes bonds (g.R.Rig.state done.proven.rig) determines (withstood-rests c.args.p.now.withstand c.args.p.now done.failed (not_none c.args.p.now.withstand c.requires.test) made).runs before)
+    (λ stop stopped. stop-in_order classes bonds g.R.Rig.state (g.R.Rig.state c.args.proven.rig) stop determines stopped before)
+    c.stand_bits.ensures.ok c.stand_bits.ensures.err
+
+pub returns-clause-zero : goal.returns-clause-zero
+returns-clause-zero g c =
+    let zeroed = c.points-point_count.ensures.seating.unpowered in
+    voltage-by c.stand_bits.result _ _ _ _
+    (λ done made. let rests = (withstood-rests c.args.p.now.withstand c.args.p.now done.failed (not_none c.args.p.now.withstand c.requires.test) made).runs in rest-zero zeroed rests.happens rests.rest)
+    (λ stop stopped. stop-zero (cluster_classes c.args.p.now) g.R.Rig.state (g.R.Rig.state c.args.proven.rig) stop zeroed stopped)
+    c.stand_bits.ensures.ok c.stand_bits.ensures.err
+
+pub returns-clause-in_range : goal.returns-clause-in_range
+returns-clause-in_range g c =
+    let count = c.count-net_count.ensures.count in
+    let few = c.count-net_count.ensures.few in
+    let bits = bits-few c.args.p.now c.requires.program (omega arith) in
+    IfOk-two c.stand_bits.result _ _ _ (λ done made stated. withstood-range c.args.p.now c.requires.program (not_none c.args.p.now.withstand c.requires.test) (g.R.Rig.state c.args.proven.rig) (g.R.Rig.state done.proven.rig) done.failed bits made stated)
+    c.stand_bits.ensures.ok c.stand_bits.ensures.readings
+
+pub returns-clause-tallies : goal.returns-clause-tallies
+returns-clause-tallies g c =
+    IfOk-map c.stand_bits.result _ _
+    (λ done made. under_test c.args.p.now.withstand _ _ (λ test is h. withstood-tallies done.failed c.points-point_count.ensures.seating.unpowered h) made)
+    c.stand_bits.ensures.ok
