@@ -1,10 +1,7 @@
-pub mod RowLemmas
-pub mod PlaceLemmas
-pub mod Reading
 pub mod Numbers
-pub mod Joining
-pub mod Collecting
 pub mod Searching
+pub mod Marks
+pub mod Sums
+pub mod Logging
 pub mod SimLemmas
-pub mod Starting
-pub mod LawLemmas
+pub mod Seating

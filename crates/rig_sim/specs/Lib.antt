@@ -1,10 +1,6 @@
-pub mod Rows
-pub mod Places
-pub mod Harness
-pub mod Units
-pub mod Refusals
-pub mod Above
-pub mod FaultCalls
+pub mod Counters
+pub mod Meters
+pub mod Logs
+pub mod Fixture
 pub mod SimRig
 pub mod SimView
-pub mod Laws

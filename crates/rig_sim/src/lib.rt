@@ -1,27 +1,27 @@
 //! A rig without a device: the simulator reads as its file.
 //!
-//! - [`SimRig::read`] takes a harness file. A file in form gives the rig of its rows (specs/Harness.antt, `IsHarness`): its
-//!   points, its units with their wires, and the calls that fail. Every other file is refused for the first cause in the order
-//!   of the format, with its line (`IsRefused`); want of memory alone has no cause in the file. [`laws`]: a file has one list
-//!   of rows or one refusal, and never both.
+//! - [`SimRig::read`] takes a harness file. A file in form gives the rig of its rows: its points, its units with their rows, the
+//!   calls that fail and the interlock readings that are open (specs/SimRig.antt, `IsNew`). Every other file is refused as
+//!   [`harness::Harness::read`] says.
 //! - [`SimRig`] is a [`rig::Rig`] that is honest and tells its units, the seated unit's rows, the trail and the tallies. Its
 //!   k-th call, counted from the reading of the file, fails exactly where the file has a `fault` row with k or where the call
-//!   finds its own count at the last value. A group reading is yes exactly where a walk of the seated unit's wires leads from a
-//!   point of the one group to a point of the other.
-//! - The classes of joined points are made for a unit when it is seated, and for no other.
+//!   finds its own count at the last value (`Counts`). Its k-th interlock reading that did not fail is open exactly where the
+//!   file has a `door` row with k (`CountsDoor`). A call that is refused for memory is not counted, and changes nothing but that
+//!   a seat leaves no unit seated.
+//! - The readings are those of the seated unit's rows: which groups are joined, the resistor and the diode between two points,
+//!   the leak between the groups of the route at the volts that stand, and the volts that a charge leaves. Every conductance
+//!   fits 64 bits (`HasSmallConductance`).
+//! - The classes of joined points are made for a unit when it is seated, and for no other. A command to zero takes no memory:
+//!   its event goes into the room that a route or a raise has set aside.
 #![tactic(auto)]
 
-mod above;
-mod fault_calls;
-mod harness;
-pub mod laws;
-mod refusal;
-mod row;
+mod counter;
+mod fixture;
+mod log;
+mod meter;
 mod sim_rig;
-mod units;
 
-pub use refusal::HarnessRefusal;
-pub use row::HarnessRow;
+pub use harness::HarnessRefusal;
 pub use sim_rig::SimRig;
 
 #[cfg(test)]

@@ -1,116 +1,138 @@
 //! The simulator at work, with values from the rules of its file.
 
+ghost use Rattle.std.specs.Prelude.{IfSome};
+ghost use Rattle.rig.specs.Calls.{IsReady};
+
 use crate::{HarnessRefusal, SimRig};
 use partition::Point;
-use rig::{Rig, RigStop, SeatAnswer, SeatStop, Seated};
+use rig::{Rig, RigStop, SeatAnswer};
 use std::test::Fail;
 
-const HARNESS: &[u8] = b"points 5\nunit SN1 1\nwire 0 1\nwire 2 3\nend\n";
-
-/// How the harness is refused where it is cut after n bytes.
-fn refusal_of_cut(n: usize) -> Option<HarnessRefusal> {
-    match n {
-        1..=7 => Some(HarnessRefusal::BadLine(1)),
-        10..=18 => Some(HarnessRefusal::BadLine(2)),
-        21..=27 => Some(HarnessRefusal::BadLine(3)),
-        30..=36 => Some(HarnessRefusal::BadLine(4)),
-        39..=40 => Some(HarnessRefusal::BadLine(5)),
-        41..=42 => None,
-        _ => Some(HarnessRefusal::NoEnd),
-    }
+/// The rig of a harness with its unit SN1 1 seated.
+fn seated(rt: &HostRuntime, bytes: &[u8]) -> Option<SimRig>
+    ensures { IfSome result (λ rig. IsReady rig.state) }
+{
+    let mut rig = SimRig::read(rt.alloc(), bytes).ok()?;
+    let Ok(SeatAnswer::Present) = rig.seat("SN1", 1) else {
+        return None;
+    };
+    Some(rig)
 }
 
-#[test]
-fn a_harness_is_read_whole_or_refused(rt: HostRuntime) -> Result<(), Fail> {
-    for n in 0..43 {
-        let read = SimRig::read(rt.alloc(), &HARNESS[..n]);
-        assert_eq!(rt; read.err(), refusal_of_cut(n), "cut after {n} bytes");
-    }
-    Ok(())
-}
-
-#[test]
-fn each_refusal_has_its_line(rt: HostRuntime) -> Result<(), Fail> {
-    let refusals = [
-        (
-            b"points 5\nunit SN1 1\nwire 0 5\nend".as_slice(),
-            HarnessRefusal::PointRange(3),
-        ),
-        (
-            b"points 5\n#\nunit A 1\nunit A 2\nunit A 1",
-            HarnessRefusal::SameUnit(5),
-        ),
-        (
-            b"points 5\nunit A 1\nfault 1\nend",
-            HarnessRefusal::BadLine(3),
-        ),
-        (b"points 5\nwire 0 1\nend", HarnessRefusal::BadLine(2)),
-        (b"points 1025\nend", HarnessRefusal::BadLine(1)),
-    ];
-    for (bytes, refusal) in refusals {
-        assert_eq!(rt; SimRig::read(rt.alloc(), bytes).err(), Some(refusal));
-    }
-    let lines = vec![in rt.alloc(); b'\n'; 200_001]?;
-    assert_eq!(rt;
-        SimRig::read(rt.alloc(), lines.as_slice()).err(),
-        Some(HarnessRefusal::TooMany(200_001))
-    );
-    let long = vec![in rt.alloc(); b'\n'; 8_388_609]?;
-    assert_eq!(rt;
-        SimRig::read(rt.alloc(), long.as_slice()).err(),
-        Some(HarnessRefusal::TooLong)
-    );
-    assert_eq!(rt; HarnessRefusal::PointRange(3).number(), Some(2));
-    assert_eq!(rt; HarnessRefusal::PointRange(3).line(), Some(3));
-    Ok(())
-}
-
-/// A rig of a harness, where it can be read.
-fn rig_of(rt: &HostRuntime, bytes: &[u8]) -> Option<SimRig> {
-    SimRig::read(rt.alloc(), bytes).ok()
-}
-
-/// Whether two points of a seated unit are joined; None where they are no two points of it.
-fn joined(seat: &mut Seated<SimRig>, a: u16, b: u16) -> Option<bool> {
-    if a == b || a >= seat.points() || b >= seat.points() {
+/// Whether two points are joined; None where they are no two points of the rig, or the call is refused.
+fn joined(rig: &mut SimRig, a: u16, b: u16) -> Option<bool>
+    requires { IsReady rig.old.state }
+    ensures { IsReady rig.new.state }
+{
+    if a == b || a >= rig.points() || b >= rig.points() {
         return None;
     }
-    seat.conducts(&[Point(a)], &[Point(b)]).ok()
+    rig.conducts(&[Point(a)], &[Point(b)]).ok()
+}
+
+/// The milliohms between two points; None where they are no points of the rig, or the call is refused.
+fn ohms(rig: &mut SimRig, a: u16, b: u16) -> Option<Option<u64>>
+    requires { IsReady rig.old.state }
+    ensures { IsReady rig.new.state }
+{
+    if a >= rig.points() || b >= rig.points() {
+        return None;
+    }
+    rig.ohms(Point(a), Point(b)).ok()
+}
+
+/// The millivolts from one point to another; None where they are no points of the rig, or the call is refused.
+fn junction(rig: &mut SimRig, from: u16, to: u16) -> Option<Option<u32>>
+    requires { IsReady rig.old.state }
+    ensures { IsReady rig.new.state }
+{
+    if from >= rig.points() || to >= rig.points() {
+        return None;
+    }
+    rig.junction(Point(from), Point(to)).ok()
 }
 
 #[test]
-fn readings_follow_the_wires(rt: HostRuntime) -> Result<(), Fail> {
-    let rig = rig_of(
-        &rt,
-        b"points 5\r\nunit SN1 1\nwire 0 1\nwire 2 3\nwire 1 4\nend",
-    )
-    .ok_or("refused")?;
-    match Seated::take(rig, "SN1", 1) {
-        Ok(mut seat) => {
-            let answers = [
-                joined(&mut seat, 0, 4),
-                joined(&mut seat, 1, 2),
-                joined(&mut seat, 3, 2),
-            ];
-            let rig = seat.into_rig();
-            assert_eq!(rt; answers, [Some(true), Some(false), Some(true)]);
-            assert_eq!(rt; rig.readings(), 3);
-            assert_eq!(rt; rig.events().len(), 3);
-            assert_eq!(rt; rig.tallies().len(), 1);
-        }
-        Err(SeatStop::Absent(_rig) | SeatStop::Rig(_rig) | SeatStop::Memory(_rig)) => {
-            assert!(rt; false, "the unit is there");
+fn readings_follow_the_rows(rt: HostRuntime) -> Result<(), Fail> {
+    let units = [
+        (
+            b"points 5\nunit SN1 1\nwire 0 1\nwire 2 3\nend".as_slice(),
+            false,
+            None,
+            None,
+            None,
+        ),
+        (
+            b"points 5\nunit SN1 1\nwire 0 1\nwire 2 3\nresistor 0 2 10000\nend",
+            true,
+            Some(0),
+            Some(0),
+            Some(0),
+        ),
+        (
+            b"points 5\nunit SN1 1\nwire 0 1\nwire 2 3\nresistor 0 2 10001\nend",
+            false,
+            Some(10_001),
+            None,
+            None,
+        ),
+        (
+            b"points 5\r\nunit SN1 1\r\nwire 0 1\r\nwire 2 3\r\ndiode 2 0 650\r\nend",
+            false,
+            None,
+            None,
+            Some(650),
+        ),
+    ];
+    for (bytes, met, milliohms, forward, back) in units {
+        let mut rig = seated(&rt, bytes).ok_or("refused")?;
+        let answers = (
+            joined(&mut rig, 0, 2),
+            joined(&mut rig, 1, 0),
+            joined(&mut rig, 4, 3),
+        );
+        assert_eq!(rt; answers, (Some(met), Some(true), Some(false)));
+        assert_eq!(rt; ohms(&mut rig, 1, 3), Some(milliohms));
+        assert_eq!(rt; junction(&mut rig, 1, 3), Some(forward));
+        assert_eq!(rt; junction(&mut rig, 3, 1), Some(back));
+        assert_eq!(rt; ohms(&mut rig, 4, 4), Some(Some(0)));
+        assert_eq!(rt; rig.readings(), 3);
+        assert_eq!(rt; rig.events().len(), 7);
+        assert_eq!(rt; rig.residual(), Ok(0));
+        for tally in rig.tallies().as_slice() {
+            assert_eq!(rt; (tally.readings, tally.probes), (3, 4));
         }
     }
     Ok(())
 }
 
 #[test]
-fn a_fault_row_fails_its_call(rt: HostRuntime) -> Result<(), Fail> {
-    let mut rig = rig_of(&rt, b"points 5\nfault 2\nfault 2\nunit SN1 1\nend").ok_or("refused")?;
+fn a_fault_row_fails_its_call_and_a_door_row_opens_its_reading(
+    rt: HostRuntime,
+) -> Result<(), Fail> {
+    let file = b"points 5\nfault 3\nfault 5\nfault 3\ndoor 2\nunit SN1 1\nend";
+    let mut rig = SimRig::read(rt.alloc(), file).ok().ok_or("refused")?;
     assert_eq!(rt; rig.points(), 5);
     assert_eq!(rt; rig.seat("SN1", 2), Ok(SeatAnswer::Absent));
-    assert_eq!(rt; rig.seat("SN1", 1), Err(RigStop::Failed));
-    assert_eq!(rt; rig.seat("SN1", 1), Ok(SeatAnswer::Present));
+    let Ok(SeatAnswer::Present) = rig.seat("SN1", 1) else {
+        return Err("not there".into());
+    };
+    assert_eq!(rt; rig.interlock(), Err(RigStop::Failed));
+    assert_eq!(rt; rig.interlock(), Ok(true));
+    assert_eq!(rt; rig.tick(), Err(RigStop::Failed));
+    assert_eq!(rt; rig.interlock(), Ok(false));
+    assert_eq!(rt; rig.interlock(), Ok(true));
+    assert_eq!(rt; rig.tick(), Ok(()));
+    assert_eq!(rt; rig.events().len(), 4);
+    Ok(())
+}
+
+#[test]
+fn a_file_out_of_form_is_refused(rt: HostRuntime) -> Result<(), Fail> {
+    let file = b"points 5\nunit SN1 1\nresistor 0 2 20000\ndiode 2 0 600\nend\n";
+    assert_eq!(rt;
+        SimRig::read(rt.alloc(), file).err(),
+        Some(HarnessRefusal::SecondElement(4))
+    );
     Ok(())
 }

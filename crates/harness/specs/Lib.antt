@@ -1,0 +1,10 @@
+pub mod Rows
+pub mod Places
+pub mod Units
+pub mod Harness
+pub mod Refusals
+pub mod Above
+pub mod Numbers
+pub mod Forest
+pub mod Pairs
+pub mod Laws

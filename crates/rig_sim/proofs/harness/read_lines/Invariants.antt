@@ -1,6 +1,0 @@
-use Rattle.lines.specs.Lines.{lines_of}
-use Rattle.rig_sim.proofs.Reading.{Progress}
-use Rattle.rig_sim.proofs.harness.read_lines.Given as goal
-
-abbrev pub invariant-loop-line : goal.invariant-loop-line
-invariant-loop-line l = Progress (lines_of l.fn.bytes) l.line-iterator l.number l.above
