@@ -7,13 +7,13 @@ use Rattle.rig.specs.declared.rig.SeatAnswer.TheVariants.{Present}
 use Rattle.rig.specs.RigState.{RigState}
 use Rattle.rig.specs.Seating.{Seats}
 use Rattle.rig.specs.Joins.{unit_rows}
-use Rattle.rig_sim.specs.declared.row.HarnessRow.{HarnessRow}
-use Rattle.rig_sim.specs.declared.row.HarnessRow.TheVariants.{Fault}
-use Rattle.rig_sim.specs.declared.refusal.HarnessRefusal.{HarnessRefusal}
-use Rattle.rig_sim.specs.Places.{points_in}
-use Rattle.rig_sim.specs.Units.{units_of, AreFaults}
+use Rattle.harness.specs.declared.row.HarnessRow.{HarnessRow}
+use Rattle.harness.specs.declared.row.HarnessRow.TheVariants.{Fault}
+use Rattle.harness.specs.declared.refusal.HarnessRefusal.{HarnessRefusal}
+use Rattle.harness.specs.Places.{points_in}
+use Rattle.harness.specs.Units.{units_of, AreFaults}
 use Rattle.rig_sim.specs.SimRig.{SimState}
-use Rattle.rig_sim.proofs.LawLemmas.{harness_law}
+use Rattle.harness.proofs.LawLemmas.{harness_law}
 use Rattle.wirelist.specs.declared.program.Program.{Program}
 use Rattle.wirelist.specs.declared.refusal.WireRefusal.{WireRefusal}
 use Rattle.bench_cli.specs.Words.{NamesUnit, IsLearn}
@@ -58,9 +58,9 @@ module _ (command : List ℕ) (run : Run) (status : ℕ) (rig : Option SimState)
   pub not_refused : {refusal : HarnessRefusal} → RefusesHarness run.harness refusal → ⊥
   not_refused {refusal} refuses = (harness_law form.harness_file).apart rows refusal form.harness (refusal_told refuses form.harness_file form.told_harness)
 
-  failing_none : {sim : SimState} → Undisturbed run rows rig → (takes : TakesHarness run.harness sim) → sim.calls.failing ≡ []
+  failing_none : {sim : SimState} → Undisturbed run rows rig → (takes : TakesHarness run.harness sim) → sim.calls.listed ≡ []
   failing_none {sim} calm takes =
-      no_failing takes.rows sim.calls.failing takes.is_new.faults
+      no_failing takes.rows sim.calls.listed takes.is_new.faults
       (λ k there. calm.no_fault_row k (subst (λ (r : List HarnessRow). Contains r (Fault k)) (rows_are takes) there))
 
 -- how the work ends where there is no such unit
@@ -71,19 +71,19 @@ module _ (command : List ℕ) (run : Run) (status : ℕ) (rig : Option SimState)
       let both : Some unit.elements ≡ None = sym unit.unit ∙ unit_is command run status rig rows None form takes words in
       cc
 
-  pub empty_ends : {Finds : RigState → RigState → List ℕ → Type 0} {serial : List ℕ} {attempt : ℕ} (sim final : SimState) → NamesUnit command run.words serial attempt → TakesHarness run.harness sim
-      → UnitWay Finds sim.state final.state serial attempt run.sunk status → Is 14 status ⊎ (status ≡ 15)
+  pub empty_ends : {Finds : RigState → RigState → List ℕ → Type 0} {Stops : RigState → RigState → Type 0} {serial : List ℕ} {attempt : ℕ} (sim final : SimState) → NamesUnit command run.words serial attempt → TakesHarness run.harness sim
+      → UnitWay Finds Stops sim.state final.state serial attempt run.sunk status → Is 14 status ⊎ (status ≡ 15)
   empty_ends sim final words takes (done is middle text seats finds wrote) = absurd (not_seated words takes seats)
   empty_ends sim final words takes (cut is middle text seats finds rose wrote) = absurd (not_seated words takes seats)
   empty_ends sim final words takes (absent is seats line) = inl (inl is)
   empty_ends sim final words takes (no_seat is seats line) = inr is
-  empty_ends sim final words takes (no_reading is middle seats reads line) = inr is
-  empty_ends sim final words takes (unit_memory is) = inl (inr is)
+  empty_ends sim final words takes (no_reading is middle seats reads stops line) = inr is
+  empty_ends sim final words takes (unit_memory is quiet) = inl (inr is)
 
 -- how it ends where there is one, and nothing disturbs
 module _ (command : List ℕ) (run : Run) (status : ℕ) (rig : Option SimState) (rows : List HarnessRow) (elements : List Row) (form : FindsUnit (NamesUnit command) run rows (Some elements)) (calm : Undisturbed run rows rig)
-    {Finds : RigState → RigState → List ℕ → Type 0} {serial : List ℕ} {attempt : ℕ} (sim final : SimState) (words : NamesUnit command run.words serial attempt) (out : rig ≡ Some final) (takes : TakesHarness run.harness sim) where
-  pub complete_ends : UnitWay Finds sim.state final.state serial attempt run.sunk status → Is 0 status
+    {Finds : RigState → RigState → List ℕ → Type 0} {Stops : RigState → RigState → Type 0} {serial : List ℕ} {attempt : ℕ} (sim final : SimState) (words : NamesUnit command run.words serial attempt) (out : rig ≡ Some final) (takes : TakesHarness run.harness sim) where
+  pub complete_ends : UnitWay Finds Stops sim.state final.state serial attempt run.sunk status → Is 0 status
   complete_ends (done is middle text seats finds wrote) = inl is
   complete_ends (cut is middle text seats finds rose wrote) = absurd (calm.written rose)
   complete_ends (absent is seats line) =
@@ -92,10 +92,10 @@ module _ (command : List ℕ) (run : Run) (status : ℕ) (rig : Option SimState)
   complete_ends (no_seat is seats line) =
       let room = calm.counts final out in
       absurd (seat_holds takes.rows sim takes.is_new final.state serial attempt (failing_none command run status rig rows (Some elements) form calm takes) seats room.0 room.1)
-  complete_ends (no_reading is middle seats reads line) =
+  complete_ends (no_reading is middle seats reads stops line) =
       let room = calm.counts final out in
       absurd (readings_hold takes.rows sim takes.is_new middle final.state serial attempt (failing_none command run status rig rows (Some elements) form calm takes) seats reads room.0 room.1)
-  complete_ends (unit_memory is) = inr is
+  complete_ends (unit_memory is quiet) = inr is
 
 -- ---- by all ways of a run
 
@@ -117,7 +117,7 @@ module _ (run : Run) (status : ℕ) (rig : Option SimState) (rows : List Harness
   empty_fixture_fact (other_points is asked sim takes p wires other line) form = absurd (not_other_points form takes p wires other)
   empty_fixture_fact (unit words sim final out takes p wires same ends) form = elim (empty_ends _ run status rig rows form.finds sim final words takes ends) [ inl is ↦ inl is | inr is ↦ inr (inr is) ]
   empty_fixture_fact (learning words sim final out takes unread ends) form = absurd (not_both run.words _ _ _ _ form.finds.words words)
-  empty_fixture_fact (memory is decided) form = inl (inr is)
+  empty_fixture_fact (memory is decided quiet) form = inl (inr is)
 
   pub none_to_learn_fact : Way run status rig → FindsUnit IsLearn run rows None → Is 14 status ⊎ (((status ≡ 6) × Failed run.harness) ⊎ (status ≡ 15))
   none_to_learn_fact (usage is none line) form = absurd (none (inr (form.serial, form.attempt, form.words)))
@@ -128,7 +128,7 @@ module _ (run : Run) (status : ℕ) (rig : Option SimState) (rows : List Harness
   none_to_learn_fact (other_points is asked sim takes p wires other line) form = absurd (not_both run.words _ _ _ _ asked.2 form.words)
   none_to_learn_fact (unit words sim final out takes p wires same ends) form = absurd (not_both run.words _ _ _ _ words form.words)
   none_to_learn_fact (learning words sim final out takes unread ends) form = elim (empty_ends _ run status rig rows form sim final words takes ends) [ inl is ↦ inl is | inr is ↦ inr (inr is) ]
-  none_to_learn_fact (memory is decided) form = inl (inr is)
+  none_to_learn_fact (memory is decided quiet) form = inl (inr is)
 
   pub complete_fact : Way run status rig → (elements : List Row) → AreInForm run rows (Some elements) → (Failed run.wires → ⊥) → Undisturbed run rows rig → Is 0 status
   complete_fact (usage is none line) elements form read calm = absurd (none (inl (form.finds.serial, form.finds.attempt, form.finds.words)))
@@ -139,7 +139,7 @@ module _ (run : Run) (status : ℕ) (rig : Option SimState) (rows : List Harness
   complete_fact (other_points is asked sim takes p wires other line) elements form read calm = absurd (not_other_points form takes p wires other)
   complete_fact (unit words sim final out takes p wires same ends) elements form read calm = complete_ends _ run status rig rows elements form.finds calm sim final words out takes ends
   complete_fact (learning words sim final out takes unread ends) elements form read calm = absurd (not_both run.words _ _ _ _ form.finds.words words)
-  complete_fact (memory is decided) elements form read calm = inr is
+  complete_fact (memory is decided quiet) elements form read calm = inr is
 
   pub complete_learning_fact : Way run status rig → (elements : List Row) → FindsUnit IsLearn run rows (Some elements) → Undisturbed run rows rig → Is 0 status
   complete_learning_fact (usage is none line) elements form calm = absurd (none (inr (form.serial, form.attempt, form.words)))
@@ -150,4 +150,4 @@ module _ (run : Run) (status : ℕ) (rig : Option SimState) (rows : List Harness
   complete_learning_fact (other_points is asked sim takes p wires other line) elements form calm = absurd (not_both run.words _ _ _ _ asked.2 form.words)
   complete_learning_fact (unit words sim final out takes p wires same ends) elements form calm = absurd (not_both run.words _ _ _ _ words form.words)
   complete_learning_fact (learning words sim final out takes unread ends) elements form calm = complete_ends _ run status rig rows elements form calm sim final words out takes ends
-  complete_learning_fact (memory is decided) elements form calm = inr is
+  complete_learning_fact (memory is decided quiet) elements form calm = inr is

@@ -3,19 +3,19 @@ use Rattle.std.proofs.Common.{◌≡◌, ◌≢◌, ◌⊎◌, inl, inr, ℕ, Li
 use Rattle.std.specs.Prelude.{zip, codes}
 use Rattle.bench_edge.specs.Whole.{TookFirst}
 use Rattle.bench_edge.proofs.Calls.{TookFirst-told}
-use Rattle.rig_sim.specs.declared.row.HarnessRow.{HarnessRow}
-use Rattle.rig_sim.specs.declared.refusal.HarnessRefusal.{HarnessRefusal}
-use Rattle.rig_sim.specs.Places.{points_in}
-use Rattle.rig_sim.specs.Harness.{IsHarness, IsRefused}
+use Rattle.harness.specs.declared.row.HarnessRow.{HarnessRow}
+use Rattle.harness.specs.declared.refusal.HarnessRefusal.{HarnessRefusal}
+use Rattle.harness.specs.Places.{points_in}
+use Rattle.harness.specs.Harness.{IsHarness, IsRefused}
 use Rattle.rig_sim.specs.SimRig.{SimState}
-use Rattle.rig_sim.proofs.LawLemmas.{harness_law}
+use Rattle.harness.proofs.LawLemmas.{harness_law}
 use Rattle.wirelist.specs.declared.program.Program.{Program}
 use Rattle.wirelist.specs.declared.refusal.WireRefusal.{WireRefusal}
 use Rattle.continuity_check.specs.Compared.{compared_of}
 use Rattle.bench_cli.specs.Words.{IsContinuity, IsLearn, AsksContinuity, IsCommand}
-use Rattle.bench_cli.specs.Closing.{Closes, ClosesWith, usage_line, read_fault_line}
-use Rattle.bench_cli.proofs.UnitWays.{UnitWay, unit_way, at_work}
-use Rattle.bench_cli.specs.Findings.{ComparesAll, LearnsAll}
+use Rattle.bench_cli.specs.Closing.{Closes, CountsNone, ClosesWith, usage_line, read_fault_line}
+use Rattle.bench_cli.proofs.UnitWays.{UnitWay, unit_way, at_work, at_memory, lacks_none}
+use Rattle.bench_cli.specs.Findings.{ComparesAll, StopsAmong, LearnsAll, StopsLearning}
 use Rattle.bench_cli.specs.Run.{Read, Run, IsUnread, TakesHarness, RefusesHarness, TakesWires, RefusesWires, Ends, most_of_harness, most_of_wires, refusal_line}
 use Rattle.bench_cli.specs.Wires.{IsWirelist, first_refusal, wires_refusal_line, points_differ_line}
 use Rattle.bench_cli.specs.Run.Ends.{no_command, harness_fault, harness_refused, harness_memory, wires_fault, wires_refused, wires_memory, points_differ, checked, learned}
@@ -44,29 +44,29 @@ pub data Way (run : Run) (status : ℕ) (rig : Option SimState) : Type 0 where
   other_points : status ≡ 13 → AsksContinuity run.words → (sim : SimState) → TakesHarness run.harness sim → (p : Program) → TakesWires run.wires p → p.nets.points ≢ sim.state.points
       → Closes run.sunk (points_differ_line sim.state.points p.nets.points) → Way run status rig
   unit : {attempt : ℕ} {serial : List ℕ} → IsContinuity run.words serial attempt → (sim final : SimState) → rig ≡ Some final → TakesHarness run.harness sim
-      → (p : Program) → TakesWires run.wires p → p.nets.points ≡ sim.state.points → UnitWay (ComparesAll (compared_of (zip p.names p.nets.named))) sim.state final.state serial attempt run.sunk status → Way run status rig
+      → (p : Program) → TakesWires run.wires p → p.nets.points ≡ sim.state.points → UnitWay (ComparesAll (compared_of (zip p.names p.nets.named))) (StopsAmong (compared_of (zip p.names p.nets.named))) sim.state final.state serial attempt run.sunk status → Way run status rig
   learning : {attempt : ℕ} {serial : List ℕ} → IsLearn run.words serial attempt → (sim final : SimState) → rig ≡ Some final → TakesHarness run.harness sim → IsUnread run.wires
-      → UnitWay LearnsAll sim.state final.state serial attempt run.sunk status → Way run status rig
-  memory : status ≡ 9 → (IsCommand run.words → ⊥) ⊎ IsCommand run.words → Way run status rig
+      → UnitWay LearnsAll StopsLearning sim.state final.state serial attempt run.sunk status → Way run status rig
+  memory : status ≡ 9 → (IsCommand run.words → ⊥) ⊎ IsCommand run.words → CountsNone run.sunk → Way run status rig
 
 abbrev Decides : Run → Type 0
 Decides run = (IsCommand run.words → ⊥) ⊎ IsCommand run.words
 
 close_way : {run : Run} (line : List ℕ) {own status : ℕ} {rig : Option SimState} → Decides run → ClosesWith run.sunk line own status → (status ≡ own → Closes run.sunk line → Way run status rig) → Way run status rig
 close_way text decided (inl (is, line)) way = way is line
-close_way text decided (inr (is, line)) way = memory is decided
+close_way text decided (inr (is, lacks)) way = memory is decided (lacks_none text lacks)
 
 pub way : (run : Run) (status : ℕ) (rig : Option SimState) → Ends run status rig → Way run status rig
-way run status rig (no_command none line) = close_way _ (inl none) line (λ is closes. usage is none closes)
-way run status rig (harness_fault command rose line) = close_way _ (inr command) line (λ is closes. fault is command rose closes)
-way run status rig (harness_refused command refusal refuses line) = close_way _ (inr command) line (λ is closes. refused is command refusal refuses closes)
-way run status rig (harness_memory command wrote) = memory refl (inr command)
-way run status rig (wires_fault asked sim takes rose line) = close_way _ (inr (inl asked)) line (λ is closes. no_wires_read is asked sim takes rose closes)
+way run status rig (no_command none unread alone line) = close_way _ (inl none) line (λ is closes. usage is none closes)
+way run status rig (harness_fault command fails alone line) = close_way _ (inr command) line (λ is closes. fault is command fails.rose closes)
+way run status rig (harness_refused command refusal refuses alone line) = close_way _ (inr command) line (λ is closes. refused is command refusal refuses closes)
+way run status rig (harness_memory command front alone unasked) = memory refl (inr command) unasked.faults
+way run status rig (wires_fault asked sim takes fails line) = close_way _ (inr (inl asked)) line (λ is closes. no_wires_read is asked sim takes fails.rose closes)
 way run status rig (wires_refused asked sim takes refusal refuses line) = close_way _ (inr (inl asked)) line (λ is closes. no_wires is asked sim takes refusal refuses closes)
 way run status rig (points_differ asked sim takes p wires other line) = close_way _ (inr (inl asked)) line (λ is closes. other_points is asked sim takes p wires other closes)
-way run status rig (wires_memory asked sim takes wrote) = memory refl (inr (inl asked))
-way run status rig (checked {attempt = attempt} {serial = serial} words sim final takes p wires same ends) = unit words sim final refl takes p wires same (unit_way _ sim.state final.state serial attempt run.sunk status ends)
-way run status rig (learned {attempt = attempt} {serial = serial} words sim final takes unread ends) = learning words sim final refl takes unread (unit_way LearnsAll sim.state final.state serial attempt run.sunk status ends)
+way run status rig (wires_memory asked sim takes front unasked) = memory refl (inr (inl asked)) unasked.faults
+way run status rig (checked {attempt = attempt} {serial = serial} words sim final takes p wires same ends) = unit words sim final refl takes p wires same (unit_way _ _ sim.state final.state serial attempt run.sunk status ends)
+way run status rig (learned {attempt = attempt} {serial = serial} words sim final takes unread ends) = learning words sim final refl takes unread (unit_way LearnsAll StopsLearning sim.state final.state serial attempt run.sunk status ends)
 
 -- ---- what is told of the files
 
@@ -111,7 +111,7 @@ module _ (run : Run) (status : ℕ) (rig : Option SimState) where
   no_command_fact (other_points is asked sim takes p wires other line) at = absurd (omega arith)
   no_command_fact (unit words sim final out takes p wires same ends) at = absurd ((at_work ends).0 at)
   no_command_fact (learning words sim final out takes unread ends) at = absurd ((at_work ends).0 at)
-  no_command_fact (memory is decided) at = absurd (omega arith)
+  no_command_fact (memory is decided quiet) at = absurd (omega arith)
 
   pub usage_fact : Way run status rig → (IsCommand run.words → ⊥) → Is 2 status
   usage_fact (usage is none line) no_one = inl is
@@ -122,7 +122,7 @@ module _ (run : Run) (status : ℕ) (rig : Option SimState) where
   usage_fact (other_points is asked sim takes p wires other line) no_one = absurd (no_one (inl asked))
   usage_fact (unit {attempt = attempt} {serial = serial} words sim final out takes p wires same ends) no_one = absurd (no_one (inl (serial, attempt, words)))
   usage_fact (learning {attempt = attempt} {serial = serial} words sim final out takes unread ends) no_one = absurd (no_one (inr (serial, attempt, words)))
-  usage_fact (memory is decided) no_one = inr is
+  usage_fact (memory is decided quiet) no_one = inr is
 
   pub harness_refused_fact : Way run status rig → status ≡ 3 → IsCommand run.words × (refusal : HarnessRefusal) × ((file : List ℕ) → TellsHarness run file → IsRefused file refusal) × Closes run.sunk (refusal_line refusal)
   harness_refused_fact (usage is none line) at = absurd (omega arith)
@@ -133,7 +133,7 @@ module _ (run : Run) (status : ℕ) (rig : Option SimState) where
   harness_refused_fact (other_points is asked sim takes p wires other line) at = absurd (omega arith)
   harness_refused_fact (unit words sim final out takes p wires same ends) at = absurd ((at_work ends).1 at)
   harness_refused_fact (learning words sim final out takes unread ends) at = absurd ((at_work ends).1 at)
-  harness_refused_fact (memory is decided) at = absurd (omega arith)
+  harness_refused_fact (memory is decided quiet) at = absurd (omega arith)
 
   pub refused_harness_fact : Way run status rig → IsCommand run.words → (file : List ℕ) (refusal : HarnessRefusal) → TellsHarness run file → IsRefused file refusal → Is 3 status ⊎ ((status ≡ 6) × Failed run.harness)
   refused_harness_fact (usage is none line) command file refusal told is_refused = absurd (none command)
@@ -144,7 +144,7 @@ module _ (run : Run) (status : ℕ) (rig : Option SimState) where
   refused_harness_fact (other_points is asked sim takes p wires other line) command file refusal told is_refused = absurd ((harness_law file).apart takes.rows refusal (harness_told takes file told) is_refused)
   refused_harness_fact (unit words sim final out takes p wires same ends) command file refusal told is_refused = absurd ((harness_law file).apart takes.rows refusal (harness_told takes file told) is_refused)
   refused_harness_fact (learning words sim final out takes unread ends) command file refusal told is_refused = absurd ((harness_law file).apart takes.rows refusal (harness_told takes file told) is_refused)
-  refused_harness_fact (memory is decided) command file refusal told is_refused = inl (inr is)
+  refused_harness_fact (memory is decided quiet) command file refusal told is_refused = inl (inr is)
 
   pub wires_refused_fact : Way run status rig → status ≡ 4 → AsksContinuity run.words × (rows : List HarnessRow) × ((file : List ℕ) → TellsHarness run file → IsHarness file rows)
       × (refusal : WireRefusal) × ((file : List ℕ) → TellsWires run file → first_refusal file ≡ Some refusal) × Closes run.sunk (wires_refusal_line refusal)
@@ -156,7 +156,7 @@ module _ (run : Run) (status : ℕ) (rig : Option SimState) where
   wires_refused_fact (other_points is asked sim takes p wires other line) at = absurd (omega arith)
   wires_refused_fact (unit words sim final out takes p wires same ends) at = absurd ((at_work ends).2 at)
   wires_refused_fact (learning words sim final out takes unread ends) at = absurd ((at_work ends).2 at)
-  wires_refused_fact (memory is decided) at = absurd (omega arith)
+  wires_refused_fact (memory is decided quiet) at = absurd (omega arith)
 
   pub refused_wires_fact : Way run status rig → AsksContinuity run.words → (harness file : List ℕ) (rows : List HarnessRow) (refusal : WireRefusal) → TellsHarness run harness → IsHarness harness rows
       → TellsWires run file → first_refusal file ≡ Some refusal → Is 4 status ⊎ ((status ≡ 6) × (Failed run.harness ⊎ Failed run.wires))
@@ -168,7 +168,7 @@ module _ (run : Run) (status : ℕ) (rig : Option SimState) where
   refused_wires_fact (other_points is asked sim takes p read other line) asks harness file rows refusal told is_harness told_wires first = absurd (not_both_ways file refusal p first (program_told read file told_wires))
   refused_wires_fact (unit words sim final out takes p read same ends) asks harness file rows refusal told is_harness told_wires first = absurd (not_both_ways file refusal p first (program_told read file told_wires))
   refused_wires_fact (learning words sim final out takes unread ends) asks harness file rows refusal told is_harness told_wires first = absurd (not_both run.words _ _ _ _ asks.2 words)
-  refused_wires_fact (memory is decided) asks harness file rows refusal told is_harness told_wires first = inl (inr is)
+  refused_wires_fact (memory is decided quiet) asks harness file rows refusal told is_harness told_wires first = inl (inr is)
 
   pub points_differ_fact : Way run status rig → status ≡ 13 → AsksContinuity run.words × (rows : List HarnessRow) × ((file : List ℕ) → TellsHarness run file → IsHarness file rows)
       × (p : Program) × ((file : List ℕ) → TellsWires run file → IsWirelist file p) × (p.nets.points ≢ points_in rows) × Closes run.sunk (points_differ_line (points_in rows) p.nets.points)
@@ -181,7 +181,7 @@ module _ (run : Run) (status : ℕ) (rig : Option SimState) where
       (asked, takes.rows, harness_told takes, p, program_told wires, λ same. other (same ∙ sym (taken_points takes)), subst (λ (n : ℕ). Closes run.sunk (points_differ_line n p.nets.points)) (taken_points takes) line)
   points_differ_fact (unit words sim final out takes p wires same ends) at = absurd ((at_work ends).4 at)
   points_differ_fact (learning words sim final out takes unread ends) at = absurd ((at_work ends).4 at)
-  points_differ_fact (memory is decided) at = absurd (omega arith)
+  points_differ_fact (memory is decided quiet) at = absurd (omega arith)
 
   -- a program that was read has the points of the file that says it
   same_points : (sim : SimState) (takes : TakesHarness run.harness sim) (harness file : List ℕ) (rows : List HarnessRow) (p q : Program) → TellsHarness run harness → IsHarness harness rows → TellsWires run file → IsWirelist file p
@@ -199,7 +199,7 @@ module _ (run : Run) (status : ℕ) (rig : Option SimState) where
   differing_points_fact (other_points is asked sim takes q read other line) asks harness file rows p told is_harness told_wires says differ = inl (inl is)
   differing_points_fact (unit words sim final out takes q read same ends) asks harness file rows p told is_harness told_wires says differ = absurd (differ (same_points sim takes harness file rows p q told is_harness told_wires says read same))
   differing_points_fact (learning words sim final out takes unread ends) asks harness file rows p told is_harness told_wires says differ = absurd (not_both run.words _ _ _ _ asks.2 words)
-  differing_points_fact (memory is decided) asks harness file rows p told is_harness told_wires says differ = inl (inr is)
+  differing_points_fact (memory is decided quiet) asks harness file rows p told is_harness told_wires says differ = inl (inr is)
 
   pub read_fault_fact : Way run status rig → status ≡ 6 → (Failed run.harness ⊎ (AsksContinuity run.words × Failed run.wires)) × Closes run.sunk read_fault_line
   read_fault_fact (usage is none line) at = absurd (omega arith)
@@ -210,15 +210,26 @@ module _ (run : Run) (status : ℕ) (rig : Option SimState) where
   read_fault_fact (other_points is asked sim takes p wires other line) at = absurd (omega arith)
   read_fault_fact (unit words sim final out takes p wires same ends) at = absurd ((at_work ends).3 at)
   read_fault_fact (learning words sim final out takes unread ends) at = absurd ((at_work ends).3 at)
-  read_fault_fact (memory is decided) at = absurd (omega arith)
+  read_fault_fact (memory is decided quiet) at = absurd (omega arith)
+
+  pub no_memory_fact : Way run status rig → status ≡ 9 → CountsNone run.sunk
+  no_memory_fact (usage is none line) at = absurd (omega arith)
+  no_memory_fact (fault is command rose line) at = absurd (omega arith)
+  no_memory_fact (no_wires_read is asked sim takes rose line) at = absurd (omega arith)
+  no_memory_fact (refused is command refusal refuses line) at = absurd (omega arith)
+  no_memory_fact (no_wires is asked sim takes refusal refuses line) at = absurd (omega arith)
+  no_memory_fact (other_points is asked sim takes p wires other line) at = absurd (omega arith)
+  no_memory_fact (unit words sim final out takes p wires same ends) at = at_memory ends at
+  no_memory_fact (learning words sim final out takes unread ends) at = at_memory ends at
+  no_memory_fact (memory is decided quiet) at = quiet
 
 -- ---- the statuses that come of the work on a unit alone
 
 pub data Works (run : Run) (status : ℕ) (rig : Option SimState) : Type 0 where
   checks : {attempt : ℕ} {serial : List ℕ} → IsContinuity run.words serial attempt → (sim final : SimState) → rig ≡ Some final → TakesHarness run.harness sim
-      → (p : Program) → TakesWires run.wires p → p.nets.points ≡ sim.state.points → UnitWay (ComparesAll (compared_of (zip p.names p.nets.named))) sim.state final.state serial attempt run.sunk status → Works run status rig
+      → (p : Program) → TakesWires run.wires p → p.nets.points ≡ sim.state.points → UnitWay (ComparesAll (compared_of (zip p.names p.nets.named))) (StopsAmong (compared_of (zip p.names p.nets.named))) sim.state final.state serial attempt run.sunk status → Works run status rig
   learns : {attempt : ℕ} {serial : List ℕ} → IsLearn run.words serial attempt → (sim final : SimState) → rig ≡ Some final → TakesHarness run.harness sim → IsUnread run.wires
-      → UnitWay LearnsAll sim.state final.state serial attempt run.sunk status → Works run status rig
+      → UnitWay LearnsAll StopsLearning sim.state final.state serial attempt run.sunk status → Works run status rig
 
 abbrev pub IsWork : ℕ → Type 0
 IsWork status = (status ≢ 2) × (status ≢ 3) × (status ≢ 4) × (status ≢ 6) × (status ≢ 9) × (status ≢ 13)
@@ -232,4 +243,4 @@ works (no_wires is asked sim takes refusal refuses line) other = absurd (other.2
 works (other_points is asked sim takes p wires differ line) other = absurd (other.5 is)
 works (unit words sim final out takes p wires same ends) other = checks words sim final out takes p wires same ends
 works (learning words sim final out takes unread ends) other = learns words sim final out takes unread ends
-works (memory is decided) other = absurd (other.4 is)
+works (memory is decided quiet) other = absurd (other.4 is)

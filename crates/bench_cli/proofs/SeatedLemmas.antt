@@ -8,16 +8,17 @@ use Rattle.rig.specs.declared.unit.Row.{Row}
 use Rattle.rig.specs.declared.rig.RigStop.TheVariants.{Failed}
 use Rattle.rig.specs.declared.rig.SeatAnswer.TheVariants.{Present, Absent}
 use Rattle.rig.specs.RigState.{RigState}
-use Rattle.rig.specs.Joins.{joins_of, joined_classes, unit_rows}
-use Rattle.rig.specs.Calls.{IsBelowLast, IsWithinFaults}
+use Rattle.rig.specs.Joins.{IsRowBelow, joins_of, joined_classes, unit_rows}
+use Rattle.rig.specs.Happened.{IsBelowLast, IsTold}
+use Rattle.rig.proofs.RowsBelow.{joins_below}
 use Rattle.rig.specs.Seating.{Seats}
 use Rattle.rig.specs.Readings.{Reads}
 use Rattle.rig.specs.Trail.{Determines, Extends, IsReading}
-use Rattle.rig_sim.specs.declared.row.HarnessRow.{HarnessRow}
-use Rattle.rig_sim.specs.Places.{points_in}
-use Rattle.rig_sim.specs.Units.{units_of}
+use Rattle.harness.specs.declared.row.HarnessRow.{HarnessRow}
+use Rattle.harness.specs.Places.{points_in}
+use Rattle.harness.specs.Units.{units_of}
 use Rattle.rig_sim.specs.SimRig.{SimState, IsNew}
-use Rattle.continuity_check.specs.Compared.{Compared, Trial, judged, reading_of, checked_text, lines_of, open_count, result_line}
+use Rattle.continuity_check.specs.Compared.{Compared, Trial, trial_of, reading_of, checked_text, lines_of, open_count, result_line}
 use Rattle.continuity_check.specs.Trials.{IsBelow, IsRight}
 use Rattle.continuity_check.proofs.RightTrials.{right_trials}
 use Rattle.learn.specs.Learned.{most_readings}
@@ -44,7 +45,7 @@ pub record Shows (rows : List HarnessRow) (final : RigState) (serial : List ℕ)
   pub elements : List Row
   pub trials : List Trial
   pub unit : unit_rows (units_of rows) serial attempt ≡ Some elements
-  pub answers : trials ≡ map (judged (joined_classes elements (points_in rows))) compared
+  pub answers : trials ≡ map (trial_of (joined_classes elements (points_in rows))) compared
   pub trail : final.trail ≡ Some (map reading_of trials)
   pub text_is : text ≡ checked_text trials
 
@@ -79,7 +80,7 @@ module _ (rows : List HarnessRow) (sim : SimState) (new : IsNew rows sim) where
           elements = found.0;
           unit = found.1;
           truth = found.2;
-          below = subst (λ (n : ℕ). JoinsBelow (joins_of found.0) n) points_are (if_some (λ r. JoinsBelow (joins_of r) sim.state.points) found.2 (seats.in_range refl));
+          below = subst (λ (n : ℕ). JoinsBelow (joins_of found.0) n) points_are (joins_below sim.state.points found.0 (if_some (λ (r : List Row). All (IsRowBelow sim.state.points) r) found.2 (seats.in_range refl)));
           points = ap (λ (s : RigState). s.points) frame ∙ points_are;
           honest = ap (λ (s : RigState). s.honest) frame ∙ ap (λ (s : RigState). s.honest) new.state;
           spent = ap (λ (s : RigState). s.spent) frame ∙ ap (λ (s : RigState). s.spent) new.state;
@@ -95,7 +96,7 @@ module _ (rows : List HarnessRow) (sim : SimState) (new : IsNew rows sim) where
           elements = unit.elements;
           trials = all.compares.trials;
           unit = unit.unit;
-          answers = right_trials unit.elements (points_in rows) unit.below all.compares.trials inside right ∙ ap (map (judged (joined_classes unit.elements (points_in rows)))) all.compares.of_these;
+          answers = right_trials unit.elements (points_in rows) unit.below all.compares.trials inside right ∙ ap (map (trial_of (joined_classes unit.elements (points_in rows)))) all.compares.of_these;
           trail = all.compares.trail ∙ ap (option_map (λ (events : List Event). events ++ map reading_of all.compares.trials)) unit.trail;
           text_is =
               all.text_is
@@ -118,7 +119,7 @@ module _ (rows : List HarnessRow) (sim : SimState) (new : IsNew rows sim) where
           elements = unit.elements;
           classes = all.classes;
           unit = unit.unit;
-          truth = if_some (λ (r : List Row). all.classes ≡ joined_classes r final.points) truth (all.learned.truth honest (told final.trail trail)) ∙ ap (joined_classes unit.elements) points;
+          truth = if_some (λ (r : List Row). all.classes ≡ joined_classes r final.points) truth (all.of_all.truth_of_all honest (told final.trail trail)) ∙ ap (joined_classes unit.elements) points;
           trail = trail;
           determined = all.learned.proven.determines;
           at_least = omega arith;
@@ -127,30 +128,34 @@ module _ (rows : List HarnessRow) (sim : SimState) (new : IsNew rows sim) where
         }
 
   -- a rig with no fault to come does not fail while its counts can rise
-  no_faults : (final : RigState) → sim.calls.failing ≡ [] → final.most_faults ≡ sim.state.most_faults → IsWithinFaults final → IsBelowLast final.spent → IsBelowLast final.seats → final.faults ≤ 0
-  no_faults final none same within spent seats =
+  no_faults : (final : RigState) → sim.calls.listed ≡ [] → final.most_faults ≡ sim.state.most_faults → IsTold final → IsBelowLast final.spent → IsBelowLast final.seats → final.faults ≤ 0
+  no_faults final none same told spent seats =
       let most : final.most_faults ≡ Some 0 = same ∙ ap (λ (s : RigState). s.most_faults) new.state ∙ ap (λ (k : List ℕ). Some (length k)) none in
-      if_some (λ most. IsBelowLast final.spent → IsBelowLast final.seats → final.faults ≤ most) most within spent seats
+      if_some (λ most. IsBelowLast final.spent → IsBelowLast final.seats → final.faults ≤ most) most told.faults spent seats
 
   -- neither a seat nor a reading of it fails
-  pub seat_holds : (final : RigState) (serial : List ℕ) (attempt : ℕ) → sim.calls.failing ≡ [] → Seats sim.state final serial attempt (Err Failed) → IsBelowLast final.spent → IsBelowLast final.seats → ⊥
+  pub seat_holds : (final : RigState) (serial : List ℕ) (attempt : ℕ) → sim.calls.listed ≡ [] → Seats sim.state final serial attempt (Err Failed) → IsBelowLast final.spent → IsBelowLast final.seats → ⊥
   seat_holds final serial attempt none seats spent seated =
-      let zero = no_faults final none (ap (λ (s : RigState). s.most_faults) seats.err) seats.within spent seated in
-      let rose = seats.cause.rose refl in
+      let zero = no_faults final none (ap (λ (s : RigState). s.most_faults) seats.err) seats.called.told spent seated in
+      let rose = seats.called.cause.rose refl in
       absurd (omega arith)
 
-  pub readings_hold : (middle final : RigState) (serial : List ℕ) (attempt : ℕ) → sim.calls.failing ≡ [] → Seats sim.state middle serial attempt (Ok Present) → Reads middle final (Some Failed) → IsBelowLast final.spent → IsBelowLast final.seats → ⊥
+  pub readings_hold : (middle final : RigState) (serial : List ℕ) (attempt : ℕ) → sim.calls.listed ≡ [] → Seats sim.state middle serial attempt (Ok Present) → Reads middle final (Some Failed) → IsBelowLast final.spent → IsBelowLast final.seats → ⊥
   readings_hold middle final serial attempt none seats reads spent seated =
-      let zero = no_faults final none (ap (λ (s : RigState). s.most_faults) reads.frame ∙ ap (λ (s : RigState). s.most_faults) (seats.present refl)) (reads.within seats.within) spent seated in
+      let zero = no_faults final none (ap (λ (s : RigState). s.most_faults) reads.frame ∙ ap (λ (s : RigState). s.most_faults) (seats.present refl)) (reads.told seats.called.told) spent seated in
       let rose = reads.cause.rose refl in
       absurd (omega arith)
 
   -- where one failed, a fault was counted
   pub seat_counts : (final : RigState) (serial : List ℕ) (attempt : ℕ) → Seats sim.state final serial attempt (Err Failed) → 0 < final.faults
-  seat_counts final serial attempt seats = let rose = seats.cause.rose refl in omega arith
+  seat_counts final serial attempt seats = let rose = seats.called.cause.rose refl in omega arith
 
   pub readings_count : (middle final : RigState) → Reads middle final (Some Failed) → 0 < final.faults
   readings_count middle final reads = let rose = reads.cause.rose refl in omega arith
+
+  -- no reading was made
+  pub unseated_trail : (final : RigState) (serial : List ℕ) (attempt : ℕ) → Seats sim.state final serial attempt (Err Failed) → final.trail ≡ Some []
+  unseated_trail final serial attempt seats = ap (λ (s : RigState). s.trail) seats.err ∙ ap (λ (s : RigState). s.trail) new.state
 
   -- no unit was found because there is none
   pub none_there : (final : RigState) (serial : List ℕ) (attempt : ℕ) → Seats sim.state final serial attempt (Ok Absent) → unit_rows (units_of rows) serial attempt ≡ None

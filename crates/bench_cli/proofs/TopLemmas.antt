@@ -1,29 +1,30 @@
 -- The ways in which a run ends, from its parts.
 use Rattle.std.proofs.Common.{◌≡◌, ◌⊎◌, inl, inr, refl, slice_get, ℕ, List, [], Option, None, Some, Err, sym, ◌∙◌, ap, subst}
 use Rattle.std.specs.Prelude.{zip, codes, decimal, unwrap_or, ◌++◌}
-use Rattle.rig_sim.specs.Refusals.{number_of, line_of}
+use Rattle.harness.specs.Refusals.{number_of, line_of}
 use Rattle.wirelist.specs.declared.program.Program.{Program}
 use Rattle.wirelist.specs.declared.refusal.WireRefusal.{WireRefusal}
-use Rattle.rig_sim.specs.declared.refusal.HarnessRefusal.{HarnessRefusal}
+use Rattle.harness.specs.declared.refusal.HarnessRefusal.{HarnessRefusal}
+use Rattle.harness.specs.declared.refusal.HarnessRefusal.TheVariants as harness
+use Rattle.harness.specs.Harness.{IsRefused}
 use Rattle.rig_sim.specs.SimRig.{SimState}
 use Rattle.continuity_check.specs.Compared.{compared_of}
-use Rattle.bench_cli.specs.declared.files.HarnessStop.{HarnessStop}
-use Rattle.bench_cli.specs.declared.files.HarnessStop.TheVariants.{Fault, Refused, Memory}
-use Rattle.bench_cli.specs.declared.wires.WiresStop.{WiresStop}
-use Rattle.bench_cli.specs.declared.wires.WiresStop.TheVariants as wires
+use Rattle.bench_cli.specs.declared.files.FileStop.{FileStop}
+use Rattle.bench_cli.specs.declared.files.FileStop.TheVariants.{Fault, Refused, Memory}
 use Rattle.bench_cli.specs.declared.words.Command.{Command}
 use Rattle.bench_cli.specs.declared.words.Command.TheVariants.{Continuity, Learn}
 use Rattle.bench_cli.specs.Words.{IsContinuity, AsksContinuity, IsCommand, Asks}
 use Rattle.bench_cli.specs.Closing.{Sunk, ClosesWith}
 use Rattle.bench_cli.specs.UnitEnds.{UnitEnds}
-use Rattle.bench_cli.specs.Findings.{ComparesAll}
+use Rattle.bench_cli.specs.Findings.{ComparesAll, StopsAmong}
 use Rattle.bench_edge.specs.Whole.{TookFirst}
+use Rattle.bench_edge.proofs.Calls.{TookFirst-lost}
 use Rattle.wirelist.specs.declared.refusal.WireRefusal.TheVariants as wire
 use Rattle.wirelist_rows.specs.Filled.{rows_in}
 use Rattle.wirelist_reader.specs.Refusals.{refusals}
 use Rattle.wirelist_reader.specs.Rows.{program_of}
-use Rattle.bench_cli.specs.Files.{HarnessIs, HarnessCloses, WiresAre, WiresClose, wires_stop_for}
-use Rattle.bench_cli.specs.Run.{Read, Run, TakesHarness, TakesWires, Ends, most_of_wires, refusal_line, line_words}
+use Rattle.bench_cli.specs.Files.{HarnessIs, HarnessCloses, WiresAre, WiresClose, StopCloses, harness_stop_of, wires_stop_of}
+use Rattle.bench_cli.specs.Run.{Read, Run, IsUnread, TakesHarness, TakesWires, Ends, most_of_harness, most_of_wires, refusal_line, line_words}
 use Rattle.bench_cli.specs.Wires.{wires_refusal_line, points_differ_line}
 use Rattle.bench_cli.specs.Run.Ends.{harness_fault, harness_refused, harness_memory, wires_fault, wires_refused, wires_memory, points_differ, checked}
 
@@ -32,20 +33,24 @@ pub asked_command : (words : List (List ℕ)) (command : Command) → Asks words
 asked_command words (Continuity unit) is = inl (unit.serial, unit.attempt, is)
 asked_command words (Learn unit) is = inr (unit.serial, unit.attempt, is)
 
-pub refused_closes : (sunk : Sunk) (stop : HarnessStop) (refusal : HarnessRefusal) (line : List ℕ) (status : ℕ) → stop ≡ Refused refusal → line ≡ refusal_line refusal → ClosesWith sunk line 3 status → HarnessCloses sunk stop status
-refused_closes sunk stop refusal line status is text closes =
-    subst (λ (s : HarnessStop). HarnessCloses sunk s status) (sym is) (subst (λ (l : List ℕ). ClosesWith sunk l 3 status) text closes)
+-- the line of a refusal
+pub refused_closes : {E : Type 0} (line_of_refusal : E → List ℕ) (own : ℕ) (sunk : Sunk) (stop : FileStop E) (refusal : E) (line : List ℕ) (status : ℕ)
+    → stop ≡ Refused refusal → line ≡ line_of_refusal refusal → ClosesWith sunk line own status → StopCloses line_of_refusal own sunk stop status
+refused_closes {E} line_of_refusal own sunk stop refusal line status is text closes =
+    subst (λ (s : FileStop E). StopCloses line_of_refusal own sunk s status) (sym is) (subst (λ (l : List ℕ). ClosesWith sunk l own status) text closes)
 
 module _ (run : Run) (status : ℕ) where
-  pub harness_ends : (stop : HarnessStop) → IsCommand run.words → HarnessIs run.harness (Err stop) → HarnessCloses run.sunk stop status → Ends run status None
-  harness_ends Fault command rose closes = harness_fault command rose closes
-  harness_ends (Refused refusal) command refuses closes = harness_refused command refusal refuses closes
-  harness_ends Memory command free closes = subst (λ (n : ℕ). Ends run n None) (sym closes.0) (harness_memory command closes.1)
+  pub harness_ends : (stop : FileStop HarnessRefusal) → IsCommand run.words → IsUnread run.wires → HarnessIs run.harness (Err stop)
+      → HarnessCloses run.sunk stop status → Ends run status None
+  harness_ends Fault command alone fails closes = harness_fault command fails alone closes
+  harness_ends (Refused refusal) command alone refuses closes = harness_refused command refusal refuses alone closes
+  harness_ends Memory command alone front closes = subst (λ (n : ℕ). Ends run n None) (sym closes.0) (harness_memory command front alone closes.1)
 
-  pub wires_end : (sim : SimState) (stop : WiresStop) → AsksContinuity run.words → TakesHarness run.harness sim → WiresAre run.wires (Err stop) → WiresClose run.sunk stop status → Ends run status (Some sim)
-  wires_end sim wires.Fault command takes rose closes = wires_fault command sim takes rose closes
-  wires_end sim (wires.Refused refusal) command takes refuses closes = wires_refused command sim takes refusal refuses closes
-  wires_end sim wires.Memory command takes free closes = subst (λ (n : ℕ). Ends run n (Some sim)) (sym closes.0) (wires_memory command sim takes closes.1)
+  pub wires_end : (sim : SimState) (stop : FileStop WireRefusal) → AsksContinuity run.words → TakesHarness run.harness sim → WiresAre run.wires (Err stop)
+      → WiresClose run.sunk stop status → Ends run status (Some sim)
+  wires_end sim Fault command takes fails closes = wires_fault command sim takes fails closes
+  wires_end sim (Refused refusal) command takes refuses closes = wires_refused command sim takes refusal refuses closes
+  wires_end sim Memory command takes front closes = subst (λ (n : ℕ). Ends run n (Some sim)) (sym closes.0) (wires_memory command sim takes front closes.1)
 
   pub difference_ends : (sim : SimState) (points wanted : ℕ) (p : Program) → points ≡ sim.state.points → wanted ≡ p.nets.points → (wanted ≡ points → ⊥) → AsksContinuity run.words → TakesHarness run.harness sim → TakesWires run.wires p
       → ClosesWith run.sunk (points_differ_line points wanted) 13 status → Ends run status (Some sim)
@@ -54,10 +59,10 @@ module _ (run : Run) (status : ℕ) where
       (subst (λ (n : ℕ). ClosesWith run.sunk (points_differ_line sim.state.points n) 13 status) at_wanted (subst (λ (n : ℕ). ClosesWith run.sunk (points_differ_line n wanted) 13 status) at_points closes))
 
   pub unit_ends : (sim final : SimState) (points wanted attempt : ℕ) (serial : List ℕ) (listed : List (List ℕ)) (p : Program) → points ≡ sim.state.points → wanted ≡ p.nets.points → wanted ≡ points → IsContinuity run.words serial attempt
-      → TakesHarness run.harness sim → TakesWires run.wires p → listed ≡ p.names → UnitEnds (ComparesAll (compared_of (zip listed p.nets.named))) sim.state final.state serial attempt run.sunk status → Ends run status (Some final)
+      → TakesHarness run.harness sim → TakesWires run.wires p → listed ≡ p.names → UnitEnds (ComparesAll (compared_of (zip listed p.nets.named))) (StopsAmong (compared_of (zip listed p.nets.named))) sim.state final.state serial attempt run.sunk status → Ends run status (Some final)
   unit_ends sim final points wanted attempt serial listed p at_points at_wanted same words takes read is ends =
       checked words sim final takes p read (sym at_wanted ∙ same ∙ at_points)
-      (subst (λ (l : List (List ℕ)). UnitEnds (ComparesAll (compared_of (zip l p.nets.named))) sim.state final.state serial attempt run.sunk status) is ends)
+      (subst (λ (l : List (List ℕ)). UnitEnds (ComparesAll (compared_of (zip l p.nets.named))) (StopsAmong (compared_of (zip l p.nets.named))) sim.state final.state serial attempt run.sunk status) is ends)
 
 pub with_line : (sunk : Sunk) (line text : List ℕ) (own status : ℕ) → line ≡ text → ClosesWith sunk line own status → ClosesWith sunk text own status
 with_line sunk line text own status is closes = subst (λ (l : List ℕ). ClosesWith sunk l own status) is closes
@@ -69,10 +74,6 @@ refusal_line-is refusal text n number line is at_n at_number at_line =
     ∙ ap (λ (k : ℕ). codes "harness refused " ++ (decimal k ++ (line_words line ++ codes "\n"))) (at_n ∙ ap (λ (o : Option ℕ). unwrap_or o 0) at_number)
     ∙ ap (λ (o : Option ℕ). codes "harness refused " ++ (decimal (unwrap_or (number_of refusal) 0) ++ (line_words o ++ codes "\n"))) at_line
 
-pub wires_close : (sunk : Sunk) (stop : WiresStop) (refusal : WireRefusal) (line : List ℕ) (status : ℕ) → stop ≡ wires.Refused refusal → line ≡ wires_refusal_line refusal → ClosesWith sunk line 4 status → WiresClose sunk stop status
-wires_close sunk stop refusal line status is text closes =
-    subst (λ (s : WiresStop). WiresClose sunk s status) (sym is) (subst (λ (l : List ℕ). ClosesWith sunk l 4 status) text closes)
-
 -- what reading the wirelist gives, of the bytes that were taken
 pub takes_wires : (read : Read) (file bytes : List ℕ) (p : Program) → TookFirst read.left read.left_after most_of_wires file → bytes ≡ file → refusals bytes ≡ [] → p ≡ program_of (rows_in bytes) → TakesWires read p
 takes_wires read file bytes p taken same none says = record {
@@ -81,7 +82,7 @@ takes_wires read file bytes p taken same none says = record {
   is_wirelist = record { faultless = ap refusals (sym same) ∙ none; says = says ∙ ap (λ (b : List ℕ). program_of (rows_in b)) same };
 }
 
-told_or_memory : (refusal : WireRefusal) → (refusal ≡ wire.Memory) ⊎ (wires_stop_for refusal ≡ wires.Refused refusal)
+told_or_memory : (refusal : WireRefusal) → (refusal ≡ wire.Memory) ⊎ (wires_stop_of refusal ≡ Refused refusal)
 told_or_memory wire.Memory = inl refl
 told_or_memory (wire.NotText n) = inr refl
 told_or_memory (wire.UnknownKind n) = inr refl
@@ -99,12 +100,35 @@ told_or_memory (wire.PartPoint n) = inr refl
 told_or_memory (wire.SecondPart n) = inr refl
 told_or_memory (wire.TooManyParts n) = inr refl
 
-pub refuses_wires : (read : Read) (file bytes : List ℕ) (refusal : WireRefusal) (stop : WiresStop) → TookFirst read.left read.left_after most_of_wires file → bytes ≡ file
-    → (refusal ≡ wire.Memory) ⊎ (slice_get (refusals bytes) 0 ≡ Some refusal) → stop ≡ wires_stop_for refusal → WiresAre read (Err stop)
-refuses_wires read file bytes refusal stop taken same (inl memory) is = subst (λ (s : WiresStop). WiresAre read (Err s)) (sym (is ∙ ap wires_stop_for memory)) tt
+pub refuses_wires : (read : Read) (file bytes : List ℕ) (refusal : WireRefusal) (stop : FileStop WireRefusal) → TookFirst read.left read.left_after most_of_wires file → bytes ≡ file
+    → (refusal ≡ wire.Memory) ⊎ (slice_get (refusals bytes) 0 ≡ Some refusal) → stop ≡ wires_stop_of refusal → WiresAre read (Err stop)
+refuses_wires read file bytes refusal stop taken same (inl memory) is =
+    subst (λ (s : FileStop WireRefusal). WiresAre read (Err s)) (sym (is ∙ ap wires_stop_of memory)) (TookFirst-lost _ _ _ _ taken)
 refuses_wires read file bytes refusal stop taken same (inr first) is = elim (told_or_memory refusal) [
-  | inl memory ↦ subst (λ (s : WiresStop). WiresAre read (Err s)) (sym (is ∙ ap wires_stop_for memory)) tt
+  | inl memory ↦ subst (λ (s : FileStop WireRefusal). WiresAre read (Err s)) (sym (is ∙ ap wires_stop_of memory)) (TookFirst-lost _ _ _ _ taken)
   | inr told ↦
-      subst (λ (s : WiresStop). WiresAre read (Err s)) (sym (is ∙ told))
+      subst (λ (s : FileStop WireRefusal). WiresAre read (Err s)) (sym (is ∙ told))
       (record { file = file; taken = taken; first = ap (λ (b : List ℕ). slice_get (refusals b) 0) (sym same) ∙ first })
+]
+
+refused_or_memory : (refusal : HarnessRefusal) → (refusal ≡ harness.Memory) ⊎ (harness_stop_of refusal ≡ Refused refusal)
+refused_or_memory harness.Memory = inl refl
+refused_or_memory (harness.BadLine n) = inr refl
+refused_or_memory (harness.PointRange n) = inr refl
+refused_or_memory (harness.SecondElement n) = inr refl
+refused_or_memory (harness.SameUnit n) = inr refl
+refused_or_memory harness.NoEnd = inr refl
+refused_or_memory (harness.TooMany n) = inr refl
+refused_or_memory harness.TooLong = inr refl
+
+-- what reading a harness file gives that is refused
+pub refuses_harness : (read : Read) (file bytes : List ℕ) (refusal : HarnessRefusal) (stop : FileStop HarnessRefusal) → TookFirst read.left read.left_after most_of_harness file
+    → bytes ≡ file → (refusal ≡ harness.Memory) ⊎ IsRefused bytes refusal → stop ≡ harness_stop_of refusal → HarnessIs read (Err stop)
+refuses_harness read file bytes refusal stop taken same (inl memory) is =
+    subst (λ (s : FileStop HarnessRefusal). HarnessIs read (Err s)) (sym (is ∙ ap harness_stop_of memory)) (TookFirst-lost _ _ _ _ taken)
+refuses_harness read file bytes refusal stop taken same (inr refused) is = elim (refused_or_memory refusal) [
+  | inl memory ↦ subst (λ (s : FileStop HarnessRefusal). HarnessIs read (Err s)) (sym (is ∙ ap harness_stop_of memory)) (TookFirst-lost _ _ _ _ taken)
+  | inr told ↦
+      subst (λ (s : FileStop HarnessRefusal). HarnessIs read (Err s)) (sym (is ∙ told))
+      (record { file = file; taken = taken; is_refused = subst (λ (b : List ℕ). IsRefused b refusal) same refused })
 ]

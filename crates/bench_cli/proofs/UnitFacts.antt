@@ -1,21 +1,25 @@
 -- What a run promises of the unit, by the ways in which the work on it ends.
-use Rattle.std.proofs.Common.{◌≡◌, ◌⊎◌, inl, inr, ◌<◌, ℕ, List, Option, None, Some, sym, ◌∙◌, subst, arith}
-use Rattle.std.specs.Prelude.{zip}
+use Rattle.std.proofs.Common.{◌≡◌, ◌⊎◌, inl, inr, ◌<◌, ◌++◌, ◌∷◌, [], ℕ, List, Option, None, Some, Ok, map, sym, ◌∙◌, ap, subst, arith}
+use Rattle.std.specs.Prelude.{zip, option_map}
+use Rattle.rig.specs.declared.event.Event.{Event}
+use Rattle.rig.specs.declared.rig.SeatAnswer.TheVariants.{Present}
+use Rattle.rig.specs.Seating.{Seats}
 use Rattle.base.specs.Causes.{Rose}
 use Rattle.wirelist.specs.declared.program.Program.{Program}
 use Rattle.rig.specs.RigState.{RigState}
 use Rattle.rig.specs.Joins.{unit_rows}
-use Rattle.rig_sim.specs.declared.row.HarnessRow.{HarnessRow}
-use Rattle.rig_sim.specs.Units.{units_of}
-use Rattle.rig_sim.specs.Harness.{IsHarness}
+use Rattle.harness.specs.declared.row.HarnessRow.{HarnessRow}
+use Rattle.harness.specs.Units.{units_of}
+use Rattle.harness.specs.Harness.{IsHarness}
 use Rattle.rig_sim.specs.SimRig.{SimState}
-use Rattle.continuity_check.specs.Compared.{Trial, checked_text, compared_of}
+use Rattle.continuity_check.specs.Compared.{Compared, Trial, reading_of, checked_text, compared_of}
 use Rattle.learned_program.specs.LearnedProgram.{learned_text}
 use Rattle.bench_cli.specs.Words.{IsContinuity, IsLearn, AsksContinuity, AsksLearn, IsCommand}
 use Rattle.bench_cli.specs.Closing.{Wrote, WroteSome, Closes, rig_fault_line, fixture_empty_line}
 use Rattle.bench_cli.specs.Run.{Run, IsUnread, TakesHarness, TakesWires}
-use Rattle.bench_cli.specs.Promises.{TellsHarness, IsChecked, HasLearned}
-use Rattle.bench_cli.proofs.SeatedLemmas.{Shows, shows, Teaches, teaches, seat_counts, readings_count, none_there}
+use Rattle.bench_cli.specs.Findings.{StopsAmong}
+use Rattle.bench_cli.specs.Promises.{TellsHarness, IsChecked, IsCutOff, HasLearned}
+use Rattle.bench_cli.proofs.SeatedLemmas.{Shows, shows, Teaches, teaches, is_seated, unseated_trail, seat_counts, readings_count, none_there}
 use Rattle.bench_cli.proofs.UnitWays.{UnitWay, at_done, at_cut, at_absent, at_fault}
 use Rattle.bench_cli.proofs.RunLemmas.{Way, harness_told, program_told, taken_points, not_both, Works, IsWork, works}
 use Rattle.bench_cli.proofs.RunLemmas.Works.{checks, learns}
@@ -38,6 +42,27 @@ is_checked {run} {serial} {attempt} {sim} {final} {text} takes words p wires sam
   answers = shown.answers;
   trail = shown.trail;
 }
+
+-- a check that was cut off, in the words of the files
+cut_off_at : {run : Run} {serial : List ℕ} {attempt : ℕ} {sim final : SimState} (takes : TakesHarness run.harness sim) → IsContinuity run.words serial attempt
+    → (p : Program) → TakesWires run.wires p → (middle : RigState) → Seats sim.state middle serial attempt (Ok Present)
+    → StopsAmong (compared_of (zip p.names p.nets.named)) middle final.state → (trials : List Trial) × IsCutOff run final trials
+cut_off_at {run} {serial} {attempt} {sim} {final} takes words p wires middle seats stops =
+    let unit = is_seated takes.rows sim takes.is_new middle serial attempt seats in
+    let trials = stops.compares.trials in (
+      trials,
+      record {
+        serial = serial;
+        attempt = attempt;
+        p = p;
+        next = stops.next;
+        rest = stops.rest;
+        words = words;
+        wires = program_told wires;
+        front = stops.split ∙ ap (λ (l : List Compared). l ++ (stops.next ∷ stops.rest)) (sym stops.compares.of_these);
+        trail = stops.compares.trail ∙ ap (option_map (λ (events : List Event). events ++ map reading_of trials)) unit.trail;
+      },
+    )
 
 -- a unit that was learned, in the words of the file
 has_learned : {run : Run} {serial : List ℕ} {attempt : ℕ} {sim final : SimState} {text : List ℕ} (takes : TakesHarness run.harness sim)
@@ -135,15 +160,15 @@ module _ (run : Run) (status : ℕ) (rig : Option SimState) where
   abbrev FaultFact : Type 0
   FaultFact = (sim : SimState) × (rig ≡ Some sim) × (0 < sim.state.faults) × Closes run.sunk rig_fault_line
 
-  fault_in : {Finds : RigState → RigState → List ℕ → Type 0} {serial : List ℕ} {attempt : ℕ} (sim final : SimState) → rig ≡ Some final → TakesHarness run.harness sim
-      → UnitWay Finds sim.state final.state serial attempt run.sunk status → status ≡ 15 → FaultFact
-  fault_in {Finds} {serial} {attempt} sim final out takes ends at =
+  fault_in : {Finds : RigState → RigState → List ℕ → Type 0} {Stops : RigState → RigState → Type 0} {serial : List ℕ} {attempt : ℕ} (sim final : SimState) → rig ≡ Some final → TakesHarness run.harness sim
+      → UnitWay Finds Stops sim.state final.state serial attempt run.sunk status → status ≡ 15 → FaultFact
+  fault_in {Finds} {Stops} {serial} {attempt} sim final out takes ends at =
       let fault = at_fault ends at in (
         final,
         out,
         elim fault.0 [
           | inl seats ↦ seat_counts takes.rows sim takes.is_new final.state serial attempt seats
-          | inr reading ↦ readings_count takes.rows sim takes.is_new reading.0 final.state reading.1
+          | inr reading ↦ readings_count takes.rows sim takes.is_new reading.0 final.state reading.2
         ],
         fault.1,
       )
@@ -151,6 +176,21 @@ module _ (run : Run) (status : ℕ) (rig : Option SimState) where
   fault_by : Works run status rig → status ≡ 15 → FaultFact
   fault_by (checks words sim final out takes p wires same ends) at = fault_in sim final out takes ends at
   fault_by (learns words sim final out takes unread ends) at = fault_in sim final out takes ends at
+
+  abbrev CutOffFact : Type 0
+  CutOffFact = (sim : SimState) × (rig ≡ Some sim) × ((sim.state.trail ≡ Some []) ⊎ ((trials : List Trial) × IsCutOff run sim trials))
+
+  cut_off_by : Works run status rig → status ≡ 15 → AsksContinuity run.words → CutOffFact
+  cut_off_by (checks {attempt} {serial} words sim final out takes p wires same ends) at asks =
+      let fault = at_fault ends at in (
+        final,
+        out,
+        elim fault.0 [
+          | inl seats ↦ inl (unseated_trail takes.rows sim takes.is_new final.state serial attempt seats)
+          | inr reading ↦ inr (cut_off_at takes words p wires reading.0 reading.1 reading.3)
+        ],
+      )
+  cut_off_by (learns words sim final out takes unread ends) at asks = absurd (not_both run.words _ _ _ _ asks.2 words)
 
   -- by all ways of a run
 
@@ -178,3 +218,6 @@ module _ (run : Run) (status : ℕ) (rig : Option SimState) where
 
   pub rig_fault_fact : Way run status rig → status ≡ 15 → FaultFact
   rig_fault_fact way at = fault_by (works_at 15 none_of_15 way at) at
+
+  pub check_fault_fact : Way run status rig → status ≡ 15 → AsksContinuity run.words → CutOffFact
+  check_fault_fact way at = cut_off_by (works_at 15 none_of_15 way at) at

@@ -1,22 +1,22 @@
--- A run of the program: what it is given, how it ends and what it leaves.
---     Run                 what a run is given, and what its sources and its sink are after it
---     Ends run status rig the ways in which a run ends, each with its cause, its status and its closing line
+-- What a run is given, and what its sources and its sink are after it.
+--     read_by left faults s t    what a source s that became t had left and how often it had failed, by its two meanings
+--     Ends run status rig        the ways in which a run ends, each with its cause, its status and its closing line
 use Rattle.std.specs.Prelude.{◌≡◌, ◌≢◌, ◌++◌, [], ℕ, List, Option, None, Some, codes, decimal, zip, unwrap_or}
 use Rattle.base.specs.Causes.{Rose}
-use Rattle.bench_edge.specs.Whole.{TookFirst}
-use Rattle.rig_sim.specs.declared.row.HarnessRow.{HarnessRow}
-use Rattle.rig_sim.specs.declared.refusal.HarnessRefusal.{HarnessRefusal}
-use Rattle.rig_sim.specs.Refusals.{number_of, line_of}
-use Rattle.rig_sim.specs.Harness.{IsHarness, IsRefused}
+use Rattle.bench_edge.specs.Whole.{TookFirst, LostFront}
+use Rattle.harness.specs.declared.row.HarnessRow.{HarnessRow}
+use Rattle.harness.specs.declared.refusal.HarnessRefusal.{HarnessRefusal}
+use Rattle.harness.specs.Refusals.{number_of, line_of}
+use Rattle.harness.specs.Harness.{IsHarness, IsRefused}
 use Rattle.rig_sim.specs.SimRig.{SimState, IsNew}
 use Rattle.wirelist.specs.declared.program.Program.{Program}
 use Rattle.wirelist.specs.declared.refusal.WireRefusal.{WireRefusal}
 use Rattle.continuity_check.specs.Compared.{compared_of}
 use Rattle.bench_cli.specs.Words.{IsContinuity, IsLearn, AsksContinuity, IsCommand}
-use Rattle.bench_cli.specs.Closing.{Sunk, Wrote, ClosesWith, usage_line, read_fault_line}
+use Rattle.bench_cli.specs.Closing.{Sunk, IsUnasked, ClosesWith, usage_line, read_fault_line}
 use Rattle.bench_cli.specs.UnitEnds.{UnitEnds}
 use Rattle.bench_cli.specs.Wires.{IsWirelist, first_refusal, wires_refusal_line, points_differ_line}
-use Rattle.bench_cli.specs.Findings.{ComparesAll, LearnsAll}
+use Rattle.bench_cli.specs.Findings.{ComparesAll, StopsAmong, LearnsAll, StopsLearning}
 
 -- the bytes that a source has left and its count of failed reads, before and after
 pub record Read : Type 0 where
@@ -24,6 +24,9 @@ pub record Read : Type 0 where
   pub left_after : Option (List ℕ)
   pub faults : ℕ
   pub faults_after : ℕ
+
+abbrev pub read_by : {S : Type 0} → (S → Option (List ℕ)) → (S → ℕ) → S → S → Read
+read_by left faults old new = record { left = left old; left_after = left new; faults = faults old; faults_after = faults new }
 
 pub record Run : Type 0 where
   pub words : List (List ℕ)
@@ -72,6 +75,11 @@ pub record RefusesWires (wires : Read) (refusal : WireRefusal) : Type 0 where
   pub taken : TookFirst wires.left wires.left_after most_of_wires file
   pub first : first_refusal file ≡ Some refusal
 
+-- a read of the source failed, which may have given a front of what was left, of at most so many bytes
+pub record FailsToRead (read : Read) (most : ℕ) : Type 0 where
+  pub rose : Rose read.faults read.faults_after
+  pub front : LostFront read.left read.left_after most
+
 -- the source was not asked for its bytes
 pub record IsUnread (read : Read) : Type 0 where
   pub left : read.left_after ≡ read.left
@@ -79,20 +87,31 @@ pub record IsUnread (read : Read) : Type 0 where
 
 -- In each of these ways the status may be 9 in place of its own, where memory ran out.
 pub data Ends (run : Run) : ℕ → Option SimState → Type 0 where
-  no_command : {status : ℕ} → (IsCommand run.words → ⊥) → ClosesWith run.sunk usage_line 2 status → Ends run status None
-  harness_fault : {status : ℕ} → IsCommand run.words → Rose run.harness.faults run.harness.faults_after → ClosesWith run.sunk read_fault_line 6 status → Ends run status None
-  harness_refused : {status : ℕ} → IsCommand run.words → (refusal : HarnessRefusal) → RefusesHarness run.harness refusal → ClosesWith run.sunk (refusal_line refusal) 3 status → Ends run status None
-  harness_memory : IsCommand run.words → Wrote run.sunk [] → Ends run 9 None
+  -- neither file was read
+  no_command : {status : ℕ} → (IsCommand run.words → ⊥) → IsUnread run.harness → IsUnread run.wires
+      → ClosesWith run.sunk usage_line 2 status → Ends run status None
+  -- the harness file gave no simulator, and the wirelist was not read
+  harness_fault : {status : ℕ} → IsCommand run.words → FailsToRead run.harness most_of_harness → IsUnread run.wires
+      → ClosesWith run.sunk read_fault_line 6 status → Ends run status None
+  harness_refused : {status : ℕ} → IsCommand run.words → (refusal : HarnessRefusal) → RefusesHarness run.harness refusal → IsUnread run.wires
+      → ClosesWith run.sunk (refusal_line refusal) 3 status → Ends run status None
+  harness_memory : IsCommand run.words → LostFront run.harness.left run.harness.left_after most_of_harness → IsUnread run.wires
+      → IsUnasked run.sunk → Ends run 9 None
   -- the check of continuity reads the wirelist
-  wires_fault : {status : ℕ} → AsksContinuity run.words → (sim : SimState) → TakesHarness run.harness sim → Rose run.wires.faults run.wires.faults_after → ClosesWith run.sunk read_fault_line 6 status → Ends run status (Some sim)
-  wires_refused : {status : ℕ} → AsksContinuity run.words → (sim : SimState) → TakesHarness run.harness sim → (refusal : WireRefusal) → RefusesWires run.wires refusal → ClosesWith run.sunk (wires_refusal_line refusal) 4 status → Ends run status (Some sim)
-  wires_memory : AsksContinuity run.words → (sim : SimState) → TakesHarness run.harness sim → Wrote run.sunk [] → Ends run 9 (Some sim)
+  wires_fault : {status : ℕ} → AsksContinuity run.words → (sim : SimState) → TakesHarness run.harness sim → FailsToRead run.wires most_of_wires
+      → ClosesWith run.sunk read_fault_line 6 status → Ends run status (Some sim)
+  wires_refused : {status : ℕ} → AsksContinuity run.words → (sim : SimState) → TakesHarness run.harness sim
+      → (refusal : WireRefusal) → RefusesWires run.wires refusal → ClosesWith run.sunk (wires_refusal_line refusal) 4 status → Ends run status (Some sim)
+  wires_memory : AsksContinuity run.words → (sim : SimState) → TakesHarness run.harness sim → LostFront run.wires.left run.wires.left_after most_of_wires
+      → IsUnasked run.sunk → Ends run 9 (Some sim)
   -- both files were read, and are of other numbers of points
   points_differ : {status : ℕ} → AsksContinuity run.words → (sim : SimState) → TakesHarness run.harness sim → (p : Program) → TakesWires run.wires p
       → p.nets.points ≢ sim.state.points → ClosesWith run.sunk (points_differ_line sim.state.points p.nets.points) 13 status → Ends run status (Some sim)
   -- both files were read, and the unit was looked for
-  checked : {status attempt : ℕ} {serial : List ℕ} → IsContinuity run.words serial attempt → (sim final : SimState) → TakesHarness run.harness sim → (p : Program) → TakesWires run.wires p
-      → p.nets.points ≡ sim.state.points → UnitEnds (ComparesAll (compared_of (zip p.names p.nets.named))) sim.state final.state serial attempt run.sunk status → Ends run status (Some final)
+  checked : {status attempt : ℕ} {serial : List ℕ} → IsContinuity run.words serial attempt → (sim final : SimState) → TakesHarness run.harness sim
+      → (p : Program) → TakesWires run.wires p → p.nets.points ≡ sim.state.points
+      → UnitEnds (ComparesAll (compared_of (zip p.names p.nets.named))) (StopsAmong (compared_of (zip p.names p.nets.named)))
+      sim.state final.state serial attempt run.sunk status → Ends run status (Some final)
   -- learning leaves the wirelist alone
-  learned : {status attempt : ℕ} {serial : List ℕ} → IsLearn run.words serial attempt → (sim final : SimState) → TakesHarness run.harness sim → IsUnread run.wires
-      → UnitEnds LearnsAll sim.state final.state serial attempt run.sunk status → Ends run status (Some final)
+  learned : {status attempt : ℕ} {serial : List ℕ} → IsLearn run.words serial attempt → (sim final : SimState) → TakesHarness run.harness sim
+      → IsUnread run.wires → UnitEnds LearnsAll StopsLearning sim.state final.state serial attempt run.sunk status → Ends run status (Some final)

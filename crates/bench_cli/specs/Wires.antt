@@ -31,6 +31,7 @@ abbrev pub nets_numbers : NetsRefusal → Numbers
 nets_numbers (nets.OutOfRange p) = numbers 7 (Some 1) (Some p)
 nets_numbers (nets.Twice p) = numbers 7 (Some 2) (Some p)
 nets_numbers (nets.EmptyNet i) = numbers 7 (Some 3) (Some i)
+nets_numbers nets.NoneJudged = numbers 7 (Some 4) None
 nets_numbers nets.Memory = numbers 7 None None
 
 -- the number of a refusal, and those that it carries

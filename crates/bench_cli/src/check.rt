@@ -2,11 +2,12 @@
 
 ghost use Rattle.std.specs.Prelude.{◌≡◌, length, zip};
 ghost use Rattle.continuity_check.specs.Compared.{compared_of};
-ghost use Rattle.bench_cli.specs.Findings.{ComparesAll};
+ghost use Rattle.bench_cli.specs.Closing.{sunk_by};
+ghost use Rattle.bench_cli.specs.Findings.{ComparesAll, StopsAmong};
 ghost use Rattle.bench_cli.specs.UnitEnds.{UnitEnds, SeatedEnds};
 
-use crate::closing::status;
-use crate::unit::{UnitEnded, close_unseated, closed, print};
+use crate::closing::{end_with_line, status, write_text};
+use crate::unit::{UnitEnded, end_unseated};
 use crate::words::UnitName;
 use bench_edge::Sink;
 use continuity_check::check_nets;
@@ -26,11 +27,12 @@ pub fn check_unit<R: Rig, O: Sink>(
     requires unpowered { (R.state rig).volts ≡ 0 }
     requires names { length names.now ≡ length nets.now.named }
     requires points { nets.now.points ≡ (R.state rig).points }
-    ensures { UnitEnds (ComparesAll (compared_of (zip names.now nets.now.named))) (R.state rig) (R.state result.rig) unit.now.serial unit.now.attempt (record { got = O.got out.old; got_after = O.got out.new; faults = O.write_faults out.old; faults_after = O.write_faults out.new }) result.status }
+    ensures { UnitEnds (ComparesAll (compared_of (zip names.now nets.now.named))) (StopsAmong (compared_of (zip names.now nets.now.named)))
+        (R.state rig) (R.state result.rig) unit.now.serial unit.now.attempt (sunk_by O.got O.write_faults out.old out.new) result.status }
 {
     match Seated::take(rig, unit.serial.text(), unit.attempt) {
         Ok(seat) => check_seated(alloc, seat, names, nets, out),
-        Err(stop) => close_unseated(stop, out),
+        Err(stop) => end_unseated(stop, out),
     }
 }
 
@@ -44,18 +46,19 @@ fn check_seated<R: Rig, O: Sink>(
 ) -> UnitEnded<R>
     requires names { length names.now ≡ length nets.now.named }
     requires points { nets.now.points ≡ (R.state seat).points }
-    ensures { SeatedEnds (ComparesAll (compared_of (zip names.now nets.now.named))) (R.state seat) (R.state result.rig) (record { got = O.got out.old; got_after = O.got out.new; faults = O.write_faults out.old; faults_after = O.write_faults out.new }) result.status }
+    ensures { SeatedEnds (ComparesAll (compared_of (zip names.now nets.now.named))) (StopsAmong (compared_of (zip names.now nets.now.named)))
+        (R.state seat) (R.state result.rig) (sunk_by O.got O.write_faults out.old out.new) result.status }
 {
     match check_nets(alloc, &mut seat, names, nets) {
         Ok(sheet) => {
-            let status = print(sheet.into_text(alloc), out);
+            let status = write_text(sheet.into_text(alloc), out);
             UnitEnded {
                 status,
                 rig: seat.into_rig(),
             }
         }
         Err(RigStop::Failed) => {
-            let status = closed(out, b"rig fault\n", status::RIG_FAULT);
+            let status = end_with_line(out, b"rig fault\n", status::RIG_FAULT);
             UnitEnded {
                 status,
                 rig: seat.into_rig(),

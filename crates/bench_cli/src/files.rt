@@ -1,58 +1,61 @@
 //! The harness file, read.
 
 ghost use Rattle.std.specs.Prelude.{◌≡◌, string_bytes, IfOk};
-ghost use Rattle.bench_edge.specs.Streams.{SameOtherHalf};
-ghost use Rattle.bench_cli.specs.Run.{refusal_line};
-ghost use Rattle.bench_cli.specs.Files.{HarnessIs, HarnessCloses, stop_of};
+ghost use Rattle.bench_cli.specs.Closing.{sunk_by};
+ghost use Rattle.bench_cli.specs.Run.{read_by, refusal_line};
+ghost use Rattle.bench_cli.specs.Files.{HarnessIs, HarnessCloses, harness_stop_of};
 
-use crate::closing::status;
-use crate::unit::closed;
+use crate::closing::{end_with_line, status};
 use base::Memory;
 use bench_edge::{EdgeStop, Sink, Source, read_upto};
-use rig_sim::{HarnessRefusal, SimRig};
+use harness::HarnessRefusal;
+use rig_sim::SimRig;
 use std::alloc::Global;
 
 /// How many bytes of the harness file are read at most: one more than it may have.
 const MOST_OF_HARNESS: usize = 8_388_609;
 
-/// Why there is no simulator.
+/// Why a file gave nothing.
 #[derive(Clone, Copy, Debug)]
-pub enum HarnessStop {
+pub enum FileStop<E> {
     /// A read failed, which the source's count tells.
     Fault,
     /// The file is refused.
-    Refused(HarnessRefusal),
+    Refused(E),
     /// Memory ran out.
     Memory,
 }
 
-impl From<EdgeStop> for HarnessStop {
+impl<E> From<EdgeStop> for FileStop<E> {
     ghost use Rattle.std.specs.Prelude.{◌≡◌};
-    ghost use Rattle.bench_cli.specs.Files.{harness_stop_of};
+    ghost use Rattle.bench_cli.specs.Files.{edge_stop_of};
 
-    ghost from_gives = { λ stop given. given ≡ harness_stop_of stop };
+    ghost from_gives = { λ stop given. given ≡ edge_stop_of stop };
 
     fn from(stop: EdgeStop) -> Self {
         match stop {
-            EdgeStop::Failed => HarnessStop::Fault,
-            EdgeStop::Memory => HarnessStop::Memory,
+            EdgeStop::Failed => FileStop::Fault,
+            EdgeStop::Memory => FileStop::Memory,
         }
     }
 }
 
 /// Why there is no simulator, where a file gave none.
-fn stop_for(refusal: HarnessRefusal) -> HarnessStop
-    ensures { result ≡ stop_of refusal }
+fn stop_for(refusal: HarnessRefusal) -> FileStop<HarnessRefusal>
+    ensures { result ≡ harness_stop_of refusal }
 {
     match refusal {
-        HarnessRefusal::Memory => HarnessStop::Memory,
-        refusal => HarnessStop::Refused(refusal),
+        HarnessRefusal::Memory => FileStop::Memory,
+        refusal => FileStop::Refused(refusal),
     }
 }
 
 /// The simulator of the harness file.
-pub fn read_harness<H: Source>(alloc: Global, harness: &mut H) -> Result<SimRig, HarnessStop>
-    ensures harness { HarnessIs (record { left = H.left harness.old; left_after = H.left harness.new; faults = H.read_faults harness.old; faults_after = H.read_faults harness.new }) result }
+pub fn read_harness<H: Source>(
+    alloc: Global,
+    harness: &mut H,
+) -> Result<SimRig, FileStop<HarnessRefusal>>
+    ensures { HarnessIs (read_by H.left H.read_faults harness.old harness.new) result }
 {
     let bytes = read_upto(alloc, harness, MOST_OF_HARNESS)?;
     match SimRig::read(alloc, bytes.as_slice()) {
@@ -62,16 +65,20 @@ pub fn read_harness<H: Source>(alloc: Global, harness: &mut H) -> Result<SimRig,
 }
 
 /// Writes why there is no simulator, and gives the status.
-pub fn close_harness<O: Sink>(alloc: Global, stop: HarnessStop, out: &mut O) -> u8
-    ensures { HarnessCloses (record { got = O.got out.old; got_after = O.got out.new; faults = O.write_faults out.old; faults_after = O.write_faults out.new }) stop result }
+pub fn end_without_harness<O: Sink>(
+    alloc: Global,
+    stop: FileStop<HarnessRefusal>,
+    out: &mut O,
+) -> u8
+    ensures { HarnessCloses (sunk_by O.got O.write_faults out.old out.new) stop result }
 {
     match stop {
-        HarnessStop::Fault => closed(out, b"read fault\n", status::READ_FAULT),
-        HarnessStop::Refused(refusal) => match refusal_text(alloc, refusal) {
-            Ok(line) => closed(out, line.as_bytes(), status::HARNESS_REFUSED),
+        FileStop::Fault => end_with_line(out, b"read fault\n", status::READ_FAULT),
+        FileStop::Refused(refusal) => match refusal_text(alloc, refusal) {
+            Ok(line) => end_with_line(out, line.as_bytes(), status::HARNESS_REFUSED),
             Err(Memory) => status::NO_MEMORY,
         },
-        HarnessStop::Memory => status::NO_MEMORY,
+        FileStop::Memory => status::NO_MEMORY,
     }
 }
 

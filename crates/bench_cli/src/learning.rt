@@ -1,11 +1,12 @@
 //! The learning of a unit's wiring, from the seat to the text.
 
 ghost use Rattle.std.specs.Prelude.{◌≡◌};
-ghost use Rattle.bench_cli.specs.Findings.{LearnsAll};
+ghost use Rattle.bench_cli.specs.Closing.{sunk_by};
+ghost use Rattle.bench_cli.specs.Findings.{LearnsAll, StopsLearning};
 ghost use Rattle.bench_cli.specs.UnitEnds.{UnitEnds, SeatedEnds};
 
-use crate::closing::status;
-use crate::unit::{UnitEnded, close_unseated, closed, print};
+use crate::closing::{end_with_line, status, write_text};
+use crate::unit::{UnitEnded, end_unseated};
 use crate::words::UnitName;
 use bench_edge::Sink;
 use learn::{LearnStop, Learned, learn};
@@ -21,28 +22,29 @@ pub fn learn_unit<R: Rig, O: Sink>(
     out: &mut O,
 ) -> UnitEnded<R>
     requires { (R.state rig).volts ≡ 0 }
-    ensures { UnitEnds LearnsAll (R.state rig) (R.state result.rig) unit.now.serial unit.now.attempt (record { got = O.got out.old; got_after = O.got out.new; faults = O.write_faults out.old; faults_after = O.write_faults out.new }) result.status }
+    ensures { UnitEnds LearnsAll StopsLearning (R.state rig) (R.state result.rig)
+        unit.now.serial unit.now.attempt (sunk_by O.got O.write_faults out.old out.new) result.status }
 {
     match Seated::take(rig, unit.serial.text(), unit.attempt) {
         Ok(seat) => learn_seated(alloc, seat, out),
-        Err(stop) => close_unseated(stop, out),
+        Err(stop) => end_unseated(stop, out),
     }
 }
 
 /// Learns a seated unit, and writes the program.
 fn learn_seated<R: Rig, O: Sink>(alloc: Global, seat: Seated<R>, out: &mut O) -> UnitEnded<R>
-    ensures { SeatedEnds LearnsAll (R.state seat) (R.state result.rig) (record { got = O.got out.old; got_after = O.got out.new; faults = O.write_faults out.old; faults_after = O.write_faults out.new }) result.status }
+    ensures { SeatedEnds LearnsAll StopsLearning (R.state seat) (R.state result.rig) (sunk_by O.got O.write_faults out.old out.new) result.status }
 {
     match learn(alloc, seat) {
         Ok(Learned { seat, partition }) => {
-            let status = print(text_of(alloc, &partition), out);
+            let status = write_text(text_of(alloc, &partition), out);
             UnitEnded {
                 status,
                 rig: seat.into_rig(),
             }
         }
         Err(LearnStop::Rig(seat)) => {
-            let status = closed(out, b"rig fault\n", status::RIG_FAULT);
+            let status = end_with_line(out, b"rig fault\n", status::RIG_FAULT);
             UnitEnded {
                 status,
                 rig: seat.into_rig(),

@@ -11,6 +11,8 @@
 //! - status 0 of learning: the sink got exactly the program of the unit's joins in the harness file, and the readings, which
 //!   keep the bounds of learning, determine these classes;
 //! - every other status has its cause, and its closing line was written whole unless a write failed;
+//! - with 9 memory ran out: what was to be written is not whole, and no failed write was counted;
+//! - a source that is not asked for is left alone, and of none is more taken than its file may have, and a byte;
 //! - with files in form, a unit that is there, no `fault` row and no count that rose, the status is 0, unless memory ran out.
 //!
 //! [`check_unit`] and [`learn_unit`] do the part from the seat to the text over any rig.

@@ -1,7 +1,7 @@
 //! The station at work over bytes in memory, with values from the rules of its files and its words.
 
 use crate::{Ended, bench};
-use base::{Bytes, Counts, Text};
+use base::{Bytes, Counts};
 use bench_edge::{MemSink, MemSource};
 use std::process::Abort;
 use std::test::Fail;
@@ -84,7 +84,10 @@ const OTHER: &str = "continuity --serial SN2 --attempt 1";
 
 const LATER: &str = "continuity --serial SN1 --attempt 2";
 
-const CHECKS: [Run; 13] = [
+const SECOND: &str =
+    "points 5\nunit SN1 1\nwire 0 1\nwire 2 3\nresistor 0 2 20000\ndiode 1 3 600\nend\n";
+
+const CHECKS: [Run; 14] = [
     (UNIT, HARNESS, WIRES, 0, "PASS\n"),
     (UNIT, ONE_WIRE, WIRES, 0, "open B 3\nFAIL 1\n"),
     (UNIT, NO_WIRE, WIRES, 0, "open A 1\nopen B 3\nFAIL 2\n"),
@@ -103,6 +106,7 @@ const CHECKS: [Run; 13] = [
     (UNIT, OFF, WIRES, 3, "harness refused 2 line 3\n"),
     (UNIT, OFF, "", 3, "harness refused 2 line 3\n"),
     (UNIT, "points 5\n", WIRES, 3, "harness refused 5\n"),
+    (UNIT, SECOND, WIRES, 3, "harness refused 3 line 6\n"),
     (
         UNIT,
         HARNESS,
@@ -118,9 +122,15 @@ const NAME_TWICE: &str = "part,P1,1\npoints,5\nnet,A,0,1\nnet,A,4\n";
 
 const QUOTED: &str = "points,5\r\n\"net\",A,1,0,,\r\npart,P1,1";
 
-const WIRELISTS: [Run; 6] = [
+const NONE_JUDGED: &str = "part,P1,1\npoints,5\nignore,0,1,2,3,4\n";
+
+const IGNORED: &str = "part,P1,1\npoints,5\nnet,B,2,3\nignore,4\n";
+
+const WIRELISTS: [Run; 8] = [
     (UNIT, HARNESS, "", 4, "wirelist refused 4\n"),
     (UNIT, HARNESS, POINT_TWICE, 4, "wirelist refused 7 2 1\n"),
+    (UNIT, HARNESS, NONE_JUDGED, 4, "wirelist refused 7 4\n"),
+    (UNIT, HARNESS, IGNORED, 0, "PASS\n"),
     (UNIT, HARNESS, NAME_TWICE, 4, "wirelist refused 8 4\n"),
     (
         UNIT,

@@ -3,15 +3,16 @@
 ghost use Rattle.std.specs.Prelude.{◌≡◌, ℕ, List, map, string_bytes};
 ghost use Rattle.wirelist.specs.Programs.{IsProgram};
 ghost use Rattle.bench_cli.specs.Words.{IsContinuity, Asks};
-ghost use Rattle.bench_cli.specs.Run.{Read, TakesHarness, TakesWires, Ends};
+ghost use Rattle.bench_cli.specs.Closing.{sunk_by};
+ghost use Rattle.bench_cli.specs.Run.{Read, read_by, TakesHarness, TakesWires, Ends};
 ghost use Rattle.bench_cli.specs.Promises.{IsRun};
 
 use crate::check::check_unit;
-use crate::closing::status;
-use crate::files::{close_harness, read_harness};
+use crate::closing::{end_with_line, status};
+use crate::files::{end_without_harness, read_harness};
 use crate::learning::learn_unit;
-use crate::unit::{UnitEnded, closed};
-use crate::wires::{close_difference, close_wires, read_wires};
+use crate::unit::UnitEnded;
+use crate::wires::{end_with_difference, end_without_wires, read_wires};
 use crate::words::{Command, UnitName, read_words};
 use bench_edge::{Sink, Source};
 use rig::Rig;
@@ -39,9 +40,9 @@ pub fn bench<H: Source, W: Source, O: Sink>(
 ) -> Ended
     ensures { IsRun (record {
       words = map string_bytes words.now;
-      harness = record { left = H.left harness.old; left_after = H.left harness.new; faults = H.read_faults harness.old; faults_after = H.read_faults harness.new };
-      wires = record { left = W.left wires.old; left_after = W.left wires.new; faults = W.read_faults wires.old; faults_after = W.read_faults wires.new };
-      sunk = record { got = O.got out.old; got_after = O.got out.new; faults = O.write_faults out.old; faults_after = O.write_faults out.new };
+      harness = read_by H.left H.read_faults harness.old harness.new;
+      wires = read_by W.left W.read_faults wires.old wires.new;
+      sunk = sunk_by O.got O.write_faults out.old out.new;
     }) result.status result.rig }
 {
     run(alloc, words, harness, wires, out)
@@ -57,21 +58,21 @@ fn run<H: Source, W: Source, O: Sink>(
 ) -> Ended
     ensures { Ends (record {
       words = map string_bytes words.now;
-      harness = record { left = H.left harness.old; left_after = H.left harness.new; faults = H.read_faults harness.old; faults_after = H.read_faults harness.new };
-      wires = record { left = W.left wires.old; left_after = W.left wires.new; faults = W.read_faults wires.old; faults_after = W.read_faults wires.new };
-      sunk = record { got = O.got out.old; got_after = O.got out.new; faults = O.write_faults out.old; faults_after = O.write_faults out.new };
+      harness = read_by H.left H.read_faults harness.old harness.new;
+      wires = read_by W.left W.read_faults wires.old wires.new;
+      sunk = sunk_by O.got O.write_faults out.old out.new;
     }) result.status result.rig }
 {
     let Some(command) = read_words(words) else {
         return Ended {
-            status: closed(out, USAGE.as_bytes(), status::NO_COMMAND),
+            status: end_with_line(out, USAGE.as_bytes(), status::NO_COMMAND),
             rig: None,
         };
     };
     match read_harness(alloc, harness) {
         Ok(sim) => obey(alloc, &command, sim, wires, out),
         Err(stop) => Ended {
-            status: close_harness(alloc, stop, out),
+            status: end_without_harness(alloc, stop, out),
             rig: None,
         },
     }
@@ -89,8 +90,8 @@ fn obey<W: Source, O: Sink>(
     ensures { (words : List (List ℕ)) (harness : Read) → Asks words command.now → TakesHarness harness sim → Ends (record {
       words = words;
       harness = harness;
-      wires = record { left = W.left wires.old; left_after = W.left wires.new; faults = W.read_faults wires.old; faults_after = W.read_faults wires.new };
-      sunk = record { got = O.got out.old; got_after = O.got out.new; faults = O.write_faults out.old; faults_after = O.write_faults out.new };
+      wires = read_by W.left W.read_faults wires.old wires.new;
+      sunk = sunk_by O.got O.write_faults out.old out.new;
     }) result.status result.rig }
 {
     match command {
@@ -117,14 +118,14 @@ fn check<W: Source, O: Sink>(
     ensures { (words : List (List ℕ)) (harness : Read) → IsContinuity words unit.now.serial unit.now.attempt → TakesHarness harness sim → Ends (record {
       words = words;
       harness = harness;
-      wires = record { left = W.left wires.old; left_after = W.left wires.new; faults = W.read_faults wires.old; faults_after = W.read_faults wires.new };
-      sunk = record { got = O.got out.old; got_after = O.got out.new; faults = O.write_faults out.old; faults_after = O.write_faults out.new };
+      wires = read_by W.left W.read_faults wires.old wires.new;
+      sunk = sunk_by O.got O.write_faults out.old out.new;
     }) result.status result.rig }
 {
     match read_wires(alloc, wires) {
         Ok(p) => compare(alloc, unit, sim, &p, out),
         Err(stop) => Ended {
-            status: close_wires(alloc, stop, out),
+            status: end_without_wires(alloc, stop, out),
             rig: Some(sim),
         },
     }
@@ -134,17 +135,18 @@ fn check<W: Source, O: Sink>(
 fn compare<O: Sink>(alloc: Global, unit: &UnitName, sim: SimRig, p: &Program, out: &mut O) -> Ended
     requires unpowered { sim.state.volts ≡ 0 }
     requires valid { IsProgram p.now }
-    ensures { (words : List (List ℕ)) (harness wires : Read) → IsContinuity words unit.now.serial unit.now.attempt → TakesHarness harness sim → TakesWires wires p.now → Ends (record {
-      words = words;
-      harness = harness;
-      wires = wires;
-      sunk = record { got = O.got out.old; got_after = O.got out.new; faults = O.write_faults out.old; faults_after = O.write_faults out.new };
-    }) result.status result.rig }
+    ensures { (words : List (List ℕ)) (harness wires : Read) → IsContinuity words unit.now.serial unit.now.attempt → TakesHarness harness sim
+        → TakesWires wires p.now → Ends (record {
+          words = words;
+          harness = harness;
+          wires = wires;
+          sunk = sunk_by O.got O.write_faults out.old out.new;
+        }) result.status result.rig }
 {
     let (points, wanted) = (sim.points(), p.nets.points());
     if wanted != points {
         return Ended {
-            status: close_difference(alloc, points, wanted, out),
+            status: end_with_difference(alloc, points, wanted, out),
             rig: Some(sim),
         };
     }

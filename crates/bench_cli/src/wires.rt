@@ -2,14 +2,15 @@
 
 ghost use Rattle.std.specs.Prelude.{◌≡◌, ◌++◌, codes, decimal, string_bytes, IfOk};
 ghost use Rattle.wirelist.specs.Programs.{IsProgram};
-ghost use Rattle.bench_cli.specs.Closing.{ClosesWith};
-ghost use Rattle.bench_cli.specs.Files.{WiresAre, WiresClose, wires_stop_for};
+ghost use Rattle.bench_cli.specs.Closing.{sunk_by, ClosesWith};
+ghost use Rattle.bench_cli.specs.Run.{read_by};
+ghost use Rattle.bench_cli.specs.Files.{WiresAre, WiresClose, wires_stop_of};
 ghost use Rattle.bench_cli.specs.Wires.{nets_numbers, numbers_of, number_words, numbers_line, wires_refusal_line, points_differ_line};
 
-use crate::closing::status;
-use crate::unit::closed;
+use crate::closing::{end_with_line, status};
+use crate::files::FileStop;
 use base::Memory;
-use bench_edge::{EdgeStop, Sink, Source, read_upto};
+use bench_edge::{Sink, Source, read_upto};
 use partition::NetsRefusal;
 use std::alloc::Global;
 use wirelist::{Program, WireRefusal};
@@ -17,44 +18,19 @@ use wirelist::{Program, WireRefusal};
 /// How many bytes of the wirelist are read at most: one more than it may have.
 const MOST_OF_WIRES: usize = 1_048_577;
 
-/// Why there is no program.
-#[derive(Clone, Copy, Debug)]
-pub enum WiresStop {
-    /// A read failed, which the source's count tells.
-    Fault,
-    /// The file is refused.
-    Refused(WireRefusal),
-    /// Memory ran out.
-    Memory,
-}
-
-impl From<EdgeStop> for WiresStop {
-    ghost use Rattle.std.specs.Prelude.{◌≡◌};
-    ghost use Rattle.bench_cli.specs.Files.{wires_stop_of};
-
-    ghost from_gives = { λ stop given. given ≡ wires_stop_of stop };
-
-    fn from(stop: EdgeStop) -> Self {
-        match stop {
-            EdgeStop::Failed => WiresStop::Fault,
-            EdgeStop::Memory => WiresStop::Memory,
-        }
-    }
-}
-
 /// Why there is no program, where the file gave none.
-fn stop_for(refusal: WireRefusal) -> WiresStop
-    ensures { result ≡ wires_stop_for refusal }
+fn stop_for(refusal: WireRefusal) -> FileStop<WireRefusal>
+    ensures { result ≡ wires_stop_of refusal }
 {
     match refusal {
-        WireRefusal::Memory => WiresStop::Memory,
-        refusal => WiresStop::Refused(refusal),
+        WireRefusal::Memory => FileStop::Memory,
+        refusal => FileStop::Refused(refusal),
     }
 }
 
 /// The program of the wirelist.
-pub fn read_wires<W: Source>(alloc: Global, wires: &mut W) -> Result<Program, WiresStop>
-    ensures wires { WiresAre (record { left = W.left wires.old; left_after = W.left wires.new; faults = W.read_faults wires.old; faults_after = W.read_faults wires.new }) result }
+pub fn read_wires<W: Source>(alloc: Global, wires: &mut W) -> Result<Program, FileStop<WireRefusal>>
+    ensures wires { WiresAre (read_by W.left W.read_faults wires.old wires.new) result }
     ensures valid { IfOk result IsProgram }
 {
     let bytes = read_upto(alloc, wires, MOST_OF_WIRES)?;
@@ -65,25 +41,25 @@ pub fn read_wires<W: Source>(alloc: Global, wires: &mut W) -> Result<Program, Wi
 }
 
 /// Writes why there is no program, and gives the status.
-pub fn close_wires<O: Sink>(alloc: Global, stop: WiresStop, out: &mut O) -> u8
-    ensures { WiresClose (record { got = O.got out.old; got_after = O.got out.new; faults = O.write_faults out.old; faults_after = O.write_faults out.new }) stop result }
+pub fn end_without_wires<O: Sink>(alloc: Global, stop: FileStop<WireRefusal>, out: &mut O) -> u8
+    ensures { WiresClose (sunk_by O.got O.write_faults out.old out.new) stop result }
 {
     match stop {
-        WiresStop::Fault => closed(out, b"read fault\n", status::READ_FAULT),
-        WiresStop::Refused(refusal) => match refusal_text(alloc, refusal) {
-            Ok(line) => closed(out, line.as_bytes(), status::WIRELIST_REFUSED),
+        FileStop::Fault => end_with_line(out, b"read fault\n", status::READ_FAULT),
+        FileStop::Refused(refusal) => match refusal_text(alloc, refusal) {
+            Ok(line) => end_with_line(out, line.as_bytes(), status::WIRELIST_REFUSED),
             Err(Memory) => status::NO_MEMORY,
         },
-        WiresStop::Memory => status::NO_MEMORY,
+        FileStop::Memory => status::NO_MEMORY,
     }
 }
 
 /// Writes that harness and wirelist have other numbers of points, and gives the status.
-pub fn close_difference<O: Sink>(alloc: Global, harness: u16, wirelist: u16, out: &mut O) -> u8
-    ensures { ClosesWith (record { got = O.got out.old; got_after = O.got out.new; faults = O.write_faults out.old; faults_after = O.write_faults out.new }) (points_differ_line harness wirelist) 13 result }
+pub fn end_with_difference<O: Sink>(alloc: Global, harness: u16, wirelist: u16, out: &mut O) -> u8
+    ensures { ClosesWith (sunk_by O.got O.write_faults out.old out.new) (points_differ_line harness wirelist) 13 result }
 {
     match difference_text(alloc, harness, wirelist) {
-        Ok(line) => closed(out, line.as_bytes(), status::POINTS_DIFFER),
+        Ok(line) => end_with_line(out, line.as_bytes(), status::POINTS_DIFFER),
         Err(Memory) => status::NO_MEMORY,
     }
 }
@@ -135,6 +111,7 @@ fn nets_numbers(refusal: NetsRefusal) -> Numbers
         NetsRefusal::OutOfRange(point) => told(7, Some(1), Some(u32::from(point.0))),
         NetsRefusal::Twice(point) => told(7, Some(2), Some(u32::from(point.0))),
         NetsRefusal::EmptyNet(net) => told(7, Some(3), Some(net)),
+        NetsRefusal::NoneJudged => told(7, Some(4), None),
         NetsRefusal::Memory => told(7, None, None),
     }
 }

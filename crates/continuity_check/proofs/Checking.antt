@@ -1,9 +1,9 @@
 -- How far a check has come.
-use Rattle.std.proofs.Common.{◌≡◌, ◌+◌, ◌-◌, ◌<◌, ◌≤◌, ◌++◌, ◌∷◌, [], ℕ, List, None, take, drop, length, get_or, sym, ◌∙◌, ap, subst, arith}
+use Rattle.std.proofs.Common.{◌≡◌, ◌+◌, ◌-◌, ◌<◌, ◌≤◌, ◌++◌, ◌∷◌, [], ℕ, List, None, take, drop, length, get_or, sym, ◌∙◌, ap, subst, arith, append_assoc}
 use Rattle.rig.specs.RigState.{RigState}
 use Rattle.rig.specs.Calls.{AreGroups, IsGroup}
 use Rattle.rig.specs.Readings.{Reads}
-use Rattle.std.proofs.lemmas.List.{map-append, take_more, take_all, get_or-drop, get_or_default, length-drop}
+use Rattle.std.proofs.lemmas.List.{map-append, take-append-drop, take_more, take_all, get_or-drop, get_or_default, length-drop}
 use Rattle.rig.proofs.Reading.{Reads-none, Reads-then}
 use Rattle.std.specs.Prelude.{All}
 use Rattle.std.specs.List.Sorted.{IsStrictlyIncreasing}
@@ -42,6 +42,16 @@ compared_with-more name points head i p inside is =
     ap (λ (k : ℕ). compared_with name head (take i points) ++ record { name = name; head = head; point = k } ∷ []) is
     ∙ sym (map-append (λ (k : ℕ). record { name = name; head = head; point = k }) (take i points) (get_or points i p ∷ []))
     ∙ ap (compared_with name head) (sym (take_more points i p inside))
+
+-- the points before a point, that point, and the others
+pub compared_with-split : (name points : List ℕ) (head i p : ℕ) → i < length points → p ≡ get_or points i p
+    → compared_with name head (take i points) ++ ((record { name = name; head = head; point = p } ∷ []) ++ compared_with name head (drop (i + 1) points)) ≡ compared_with name head points
+compared_with-split name points head i p inside is =
+    let others = compared_with name head (drop (i + 1) points) in
+    sym (append_assoc (compared_with name head (take i points)) (record { name = name; head = head; point = p } ∷ []) others)
+    ∙ ap (λ (l : List Compared). l ++ others) (compared_with-more name points head i p inside is)
+    ∙ sym (map-append (λ (k : ℕ). record { name = name; head = head; point = k }) (take (i + 1) points) (drop (i + 1) points))
+    ∙ ap (compared_with name head) (take-append-drop (i + 1) points)
 
 pub compared_with-all : (name points : List ℕ) (head i : ℕ) → length points ≤ i → compared_with name head (take i points) ≡ compared_with name head points
 compared_with-all name points head i end = ap (compared_with name head) (take_all i points end)

@@ -1,6 +1,6 @@
 -- Checks, one after the other.
-use Rattle.std.proofs.Common.{◌≡◌, ◌↔◌, ◌+◌, ◌++◌, ◌∷◌, [], ℕ, Bool, true, false, List, Option, Some, None, map, IsTrue, refl, sym, ◌∙◌, ap, subst, arith, append_assoc, append-nil, add_assoc, add-zero, not, cond, Ok}
-use Rattle.std.specs.Prelude.{All, IfSome, flat_map, option_map}
+use Rattle.std.proofs.Common.{◌≡◌, ◌↔◌, ◌+◌, ◌++◌, ◌∷◌, [], ℕ, Bool, true, false, List, Option, Some, None, map, IsTrue, refl, sym, ◌∙◌, ap, subst, arith, append_assoc, append-nil, add_assoc, add-zero, not, cond, Result, Ok, Err}
+use Rattle.std.specs.Prelude.{All, IfSome, IsErrAnd, flat_map, option_map}
 use Rattle.std.proofs.lemmas.List.Elements.{All-nil, All-cons, All-append}
 use Rattle.std.proofs.lemmas.List.{map-append}
 use Rattle.std.proofs.lemmas.List.Sums.{sum_by-append}
@@ -10,11 +10,12 @@ use Rattle.rig.specs.declared.unit.Row.{Row}
 use Rattle.rig.specs.Joins.{Joined}
 use Rattle.rig.specs.RigState.{RigState}
 use Rattle.rig.specs.declared.rig.RigStop.{RigStop}
+use Rattle.rig.specs.declared.rig.RigStop.TheVariants.{Failed, Memory as NoMemory}
 use Rattle.rig.specs.Calls.{AreGroups, AreJoined, Conducts}
 use Rattle.rig.specs.Readings.{Reads}
 use Rattle.rig.proofs.Groups.{Contains-one}
 use Rattle.continuity_check.specs.Compared.{Compared, Trial, reading_of, lines_of, open_count, open_line}
-use Rattle.continuity_check.specs.Trials.{SheetView, IsBelow, IsRight, Compares}
+use Rattle.continuity_check.specs.Trials.{SheetView, IsBelow, IsRight, Compares, StopsAt}
 
 trail-none : (trail : Option (List Event)) → trail ≡ option_map (λ events. events ++ []) trail
 trail-none None = refl
@@ -97,3 +98,48 @@ Compares-open {old} {new} {before} {after} c groups call lines opens = record {
   lines = lines ∙ ap (λ (l : List ℕ). before.lines ++ l) (sym (append-nil (open_line c.name c.point)));
   opens = opens;
 }
+
+-- a reading that failed is in no trail
+pub StopsAt-here : {old new : RigState} (sheet : SheetView) (c : Compared) → new.trail ≡ old.trail → StopsAt old new sheet (c ∷ [])
+StopsAt-here {old} {new} sheet c same = record {
+  done = [];
+  next = c;
+  rest = [];
+  sheet = sheet;
+  split = refl;
+  compares = record {
+    trials = [];
+    of_these = refl;
+    trail = same ∙ trail-none old.trail;
+    below = All-nil (IsBelow old.points);
+    right = λ honest. all-none old.honest old.truth honest;
+    lines = sym (append-nil sheet.lines);
+    opens = sym (add-zero sheet.opens);
+  };
+}
+
+-- it comes after points that were compared, and before others
+pub StopsAt-after : {s t u : RigState} {a b : SheetView} {first more all : List Compared} (others : List Compared)
+    → Reads s t None → Compares s t a b first → StopsAt t u b more → first ++ (more ++ others) ≡ all → StopsAt s u a all
+StopsAt-after {s} {t} {u} {a} {b} {first} {more} {all} others reads one stops is = record {
+  done = first ++ stops.done;
+  next = stops.next;
+  rest = stops.rest ++ others;
+  sheet = stops.sheet;
+  split =
+      sym is
+      ∙ ap (λ (l : List Compared). first ++ (l ++ others)) stops.split
+      ∙ ap (λ (l : List Compared). first ++ l) (append_assoc stops.done (stops.next ∷ stops.rest) others)
+      ∙ sym (append_assoc first stops.done (stops.next ∷ (stops.rest ++ others)));
+  compares = Compares-then reads one stops.compares;
+}
+
+-- what is said of a failure is said of no want of memory
+pub no_failure : {T : Type 0} (result : Result T RigStop) (P : Type 0) → IsErrAnd result (λ e. e ≡ NoMemory) → result ≡ Err Failed → P
+no_failure (Ok x) P is failed = absurd is
+no_failure (Err e) P is failed = let both : NoMemory ≡ Failed = cc in cc
+
+-- a refusal that is passed on was the failure
+pub was_failure : {T : Type 0} {e : RigStop} (result : Result T RigStop) → IsErrAnd result (λ y. y ≡ e) → result ≡ Err Failed → e ≡ Failed
+was_failure (Ok x) is failed = absurd is
+was_failure {e = e} (Err y) is failed = let same : y ≡ Failed = cc in sym is ∙ same

@@ -6,7 +6,7 @@ use Rattle.partition.specs.Classes.{JoinsBelow}
 use Rattle.partition.proofs.WalkLaws.{joined_by-walk, walk-joined_by}
 use Rattle.rig.specs.declared.unit.Row.{Row}
 use Rattle.rig.specs.Joins.{joins_of, joined_classes}
-use Rattle.continuity_check.specs.Compared.{Trial, judged}
+use Rattle.continuity_check.specs.Compared.{Trial, trial_of}
 use Rattle.continuity_check.specs.Trials.{IsBelow, IsRight}
 
 bool_agree : (s t : Bool) → (s ≡ true → t ≡ true) → (t ≡ true → s ≡ true) → s ≡ t
@@ -22,16 +22,16 @@ All-tail : {X : Type 0} (P : X → Type 0) (x : X) (xs : List X) → All P (x �
 All-tail P x xs all k d lt = all (suc k) d (omega arith)
 
 module _ (rows : List Row) (n : ℕ) (below : JoinsBelow (joins_of rows) n) where
-  right_met : (t : Trial) → IsBelow n t → IsRight rows t → t.met ≡ (judged (joined_classes rows n) t.compared).met
+  right_met : (t : Trial) → IsBelow n t → IsRight rows t → t.met ≡ (trial_of (joined_classes rows n) t.compared).met
   right_met t inside right =
       bool_agree t.met _
       (λ met. eq-eqb _ _ (walk-joined_by (joins_of rows) n below (right.0 met)))
       (λ same. right.1 (joined_by-walk (joins_of rows) n below t.compared.head t.compared.point inside.0 inside.1 (eqb-true _ _ same)))
 
-  pub right_trials : (trials : List Trial) → All (IsBelow n) trials → All (IsRight rows) trials → trials ≡ map (judged (joined_classes rows n)) (map (λ (t : Trial). t.compared) trials)
+  pub right_trials : (trials : List Trial) → All (IsBelow n) trials → All (IsRight rows) trials → trials ≡ map (trial_of (joined_classes rows n)) (map (λ (t : Trial). t.compared) trials)
   right_trials [] inside right = refl
   right_trials (t ∷ ts) inside right =
       let here = right_met t (All-head (IsBelow n) t ts inside) (All-head (IsRight rows) t ts right) in
       let rest = right_trials ts (All-tail (IsBelow n) t ts inside) (All-tail (IsRight rows) t ts right) in
-      let first : t ≡ judged (joined_classes rows n) t.compared = ap (λ (met : Bool). record { compared = t.compared; met = met }) here in
-      ap (λ (x : Trial). x ∷ ts) first ∙ ap (λ (xs : List Trial). judged (joined_classes rows n) t.compared ∷ xs) rest
+      let first : t ≡ trial_of (joined_classes rows n) t.compared = ap (λ (met : Bool). record { compared = t.compared; met = met }) here in
+      ap (λ (x : Trial). x ∷ ts) first ∙ ap (λ (xs : List Trial). trial_of (joined_classes rows n) t.compared ∷ xs) rest

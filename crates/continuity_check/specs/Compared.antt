@@ -1,6 +1,6 @@
 -- The points that a check of continuity compares with the heads of their nets, and what is printed of them.
 --     compared_of names nets    each point of a net but the head, in order of net, then of point
---     judged classes c          how it comes out where the points have these classes
+--     trial_of classes c        how it comes out where the points have these classes
 --     reading_of trial          the reading that it is
 --     checked_text trials       what is printed
 use Rattle.std.specs.Prelude.{ℕ, Bool, List, [], ◌∷◌, ◌++◌, map, flat_map, drop, count_by, not, ◌==◌, codes, decimal, if◌then◌else◌}
@@ -33,8 +33,8 @@ pub record Trial : Type 0 where
   pub met : Bool
 
 -- a point is joined with its head exactly where they have one class
-abbrev pub judged : List ℕ → Compared → Trial
-judged classes c = record { compared = c; met = class_at classes c.head == class_at classes c.point }
+abbrev pub trial_of : List ℕ → Compared → Trial
+trial_of classes c = record { compared = c; met = class_at classes c.head == class_at classes c.point }
 
 abbrev pub reading_of : Trial → Event
 reading_of t = Reading (t.compared.head ∷ []) (t.compared.point ∷ []) t.met

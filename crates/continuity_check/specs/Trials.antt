@@ -1,5 +1,5 @@
 -- What a check of continuity has read and written so far.
-use Rattle.std.specs.Prelude.{◌≡◌, ◌↔◌, ◌+◌, ◌<◌, ◌++◌, [], ℕ, List, All, IsTrue, IfSome, map, flat_map, option_map}
+use Rattle.std.specs.Prelude.{◌≡◌, ◌↔◌, ◌+◌, ◌<◌, ◌++◌, [], ◌∷◌, ℕ, List, All, IsTrue, IfSome, map, flat_map, option_map}
 use Rattle.rig.specs.declared.unit.Row.{Row}
 use Rattle.rig.specs.Joins.{Joined}
 use Rattle.rig.specs.RigState.{RigState}
@@ -32,3 +32,13 @@ pub record Compares (old new : RigState) (before after : SheetView) (compared : 
   pub right : IsTrue old.honest → IfSome old.truth (λ rows. All (IsRight rows) trials)
   pub lines : after.lines ≡ before.lines ++ flat_map lines_of trials
   pub opens : after.opens ≡ before.opens + open_count trials
+
+-- A reading failed, and no call was made after it. The points before it were compared, in order, and the failed reading, which is that
+-- of the next point, is in no trail.
+pub record StopsAt (old new : RigState) (before : SheetView) (compared : List Compared) : Type 0 where
+  pub done : List Compared
+  pub next : Compared
+  pub rest : List Compared
+  pub sheet : SheetView
+  pub split : compared ≡ done ++ (next ∷ rest)
+  pub compares : Compares old new before sheet done

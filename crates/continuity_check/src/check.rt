@@ -1,11 +1,11 @@
 //! The readings of a check.
 
-ghost use Rattle.std.specs.Prelude.{◌≡◌, ◌≤◌, ◌∷◌, [], length, zip, All, IfOk, OnOk};
+ghost use Rattle.std.specs.Prelude.{◌≡◌, ◌≤◌, ◌∷◌, [], length, zip, All, Err, IfOk, OnOk};
 ghost use Rattle.std.specs.Result.{result_err};
 ghost use Rattle.rig.specs.Calls.{AreGroups, IsGroup};
 ghost use Rattle.rig.specs.Readings.{Reads};
 ghost use Rattle.continuity_check.specs.Compared.{compared_in, compared_with, compared_of};
-ghost use Rattle.continuity_check.specs.Trials.{Compares, empty_sheet};
+ghost use Rattle.continuity_check.specs.Trials.{Compares, StopsAt, empty_sheet};
 
 use crate::Sheet;
 use partition::{Name, Nets, Point};
@@ -24,7 +24,10 @@ fn check_point<R: Rig>(
     requires groups { AreGroups (R.state seat.old).points (head ∷ []) (point ∷ []) }
     requires fits { sheet.old.opens ≤ (R.state seat.old).spent }
     ensures reads { Reads (R.state seat.old) (R.state seat.new) (result_err result) }
-    ensures compares { OnOk result (Compares (R.state seat.old) (R.state seat.new) sheet.old sheet.new (record { name = name.now; head = head; point = point } ∷ [])) }
+    ensures compares { OnOk result (Compares (R.state seat.old) (R.state seat.new) sheet.old sheet.new
+        (record { name = name.now; head = head; point = point } ∷ [])) }
+    ensures failed { result ≡ Err RigStop.Failed → StopsAt (R.state seat.old) (R.state seat.new) sheet.old
+        (record { name = name.now; head = head; point = point } ∷ []) }
     ensures fits { OnOk result (sheet.new.opens ≤ (R.state seat.new).spent) }
 {
     if seat.conducts(&[head], &[point])? {
@@ -47,6 +50,7 @@ fn check_points<R: Rig>(
     requires fits { sheet.old.opens ≤ (R.state seat.old).spent }
     ensures reads { Reads (R.state seat.old) (R.state seat.new) (result_err result) }
     ensures compares { OnOk result (Compares (R.state seat.old) (R.state seat.new) sheet.old sheet.new (compared_with name.now head points.now)) }
+    ensures failed { result ≡ Err RigStop.Failed → StopsAt (R.state seat.old) (R.state seat.new) sheet.old (compared_with name.now head points.now) }
     ensures fits { OnOk result (sheet.new.opens ≤ (R.state seat.new).spent) }
 {
     for point in points {
@@ -67,6 +71,7 @@ fn check_net<R: Rig>(
     requires fits { sheet.old.opens ≤ (R.state seat.old).spent }
     ensures reads { Reads (R.state seat.old) (R.state seat.new) (result_err result) }
     ensures compares { OnOk result (Compares (R.state seat.old) (R.state seat.new) sheet.old sheet.new (compared_in name.now net.now)) }
+    ensures failed { result ≡ Err RigStop.Failed → StopsAt (R.state seat.old) (R.state seat.new) sheet.old (compared_in name.now net.now) }
     ensures fits { OnOk result (sheet.new.opens ≤ (R.state seat.new).spent) }
 {
     check_points(alloc, seat, name, net[0], &net[1..], sheet)
@@ -83,6 +88,7 @@ pub fn check_nets<R: Rig>(
     requires points { nets.now.points ≡ (R.state seat.old).points }
     ensures reads { Reads (R.state seat.old) (R.state seat.new) (result_err result) }
     ensures compares { IfOk result (λ sheet. Compares (R.state seat.old) (R.state seat.new) empty_sheet sheet (compared_of (zip names.now nets.now.named))) }
+    ensures failed { result ≡ Err RigStop.Failed → StopsAt (R.state seat.old) (R.state seat.new) empty_sheet (compared_of (zip names.now nets.now.named)) }
 {
     let mut sheet = Sheet::new(alloc);
     for i in 0..nets.named() {

@@ -3,7 +3,7 @@
 ghost use Rattle.std.specs.Prelude.{◌≡◌, ◌+◌, ◌-◌, ◌<◌, ◌^◌, ◌++◌, [], ◌∷◌, codes, decimal, IfOk, OnOk, OnErr};
 ghost use Rattle.continuity_check.specs.Compared.{open_line, result_line};
 
-use base::{Memory, Text};
+use base::{Bytes, Memory};
 use partition::{Name, Point};
 use std::alloc::Global;
 use std::marker::Model;
@@ -11,7 +11,7 @@ use std::marker::Model;
 /// The lines of the points that are open, and how many there are.
 #[derive(Debug, Drop)]
 pub struct Sheet {
-    lines: Text,
+    lines: Bytes,
     opens: u64,
 }
 
@@ -29,7 +29,7 @@ impl Sheet {
         ensures { result ≡ record { lines = []; opens = 0 } }
     {
         Sheet {
-            lines: Text::new(alloc),
+            lines: Bytes::new(alloc),
             opens: 0,
         }
     }
@@ -42,21 +42,21 @@ impl Sheet {
         ensures err { OnErr result (self.new ≡ self.old) }
     {
         let line = format!(in alloc; "open {} {}\n", name.text(), point.0)?;
-        self.lines.push_str(line.as_str())?;
+        self.lines.append(line.as_bytes())?;
         self.opens += 1;
         Ok(())
     }
 
     /// The whole text: the lines, then `PASS`, or `FAIL` and the number of open points.
-    pub fn into_text(self, alloc: Global) -> Result<Text, Memory>
+    pub fn into_text(self, alloc: Global) -> Result<Bytes, Memory>
         ensures { IfOk result (λ text. text ≡ self.lines ++ result_line self.opens) }
     {
         let Sheet { mut lines, opens } = self;
         if opens == 0 {
-            lines.push_str("PASS\n")?;
+            lines.append(b"PASS\n")?;
         } else {
             let line = format!(in alloc; "FAIL {opens}\n")?;
-            lines.push_str(line.as_str())?;
+            lines.append(line.as_bytes())?;
         }
         Ok(lines)
     }

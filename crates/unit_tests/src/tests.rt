@@ -122,13 +122,13 @@ fn joined_classes_are_located_within_the_bound(rt: HostRuntime) -> Result<(), Fa
     Ok(())
 }
 
-/// A harness of 1,024 points in classes of so many neighbours.
-fn thousand(alloc: Global, neighbours: u16) -> Result<String, Fail>
+/// A harness of 4,096 points in classes of so many neighbours.
+fn harness_of(alloc: Global, neighbours: u16) -> Result<String, Fail>
     requires { 1 ≤ neighbours }
 {
     let mut text = String::new(alloc);
-    text.push_str("points 1024\nunit SN1 1\n")?;
-    for p in 0..1024 {
+    text.push_str("points 4096\nunit SN1 1\n")?;
+    for p in 0..4096 {
         let head = p - p % neighbours;
         if head != p {
             text.push_str(&format!(in alloc; "wire {head} {p}\n")?)?;
@@ -179,31 +179,31 @@ fn not_isolated(stop: IsolationStop<SimRig>) -> Option<u64> {
 }
 
 #[test]
-fn a_good_unit_of_a_thousand_points_takes_the_exact_readings(rt: HostRuntime) -> Result<(), Fail> {
+fn a_good_unit_of_the_most_points_takes_the_exact_readings(rt: HostRuntime) -> Result<(), Fail> {
     let alloc = rt.alloc();
-    let mut points = [Point(0); 1024];
-    for i in 0..1024 {
+    let mut points = [Point(0); 4096];
+    for i in 0..4096 {
         points[i] = Point(i as u16);
     }
     let mut one_net = NetLists::new(alloc);
     one_net.push(PointList::from_slice(alloc, &points)?)?;
-    let one_net = Nets::new(alloc, 1024, one_net)?;
-    let no_net = Nets::new(alloc, 1024, NetLists::new(alloc))?;
-    let joined = seated(alloc, thousand(alloc, 1024)?.as_bytes())?;
+    let one_net = Nets::new(alloc, 4096, one_net)?;
+    let no_net = Nets::new(alloc, 4096, NetLists::new(alloc))?;
+    let joined = seated(alloc, harness_of(alloc, 4096)?.as_bytes())?;
     assert!(rt; one_net.points() == joined.points());
-    assert_eq!(rt; tested(alloc, joined, &one_net), Some(1023));
-    let alone = seated(alloc, thousand(alloc, 1)?.as_bytes())?;
+    assert_eq!(rt; tested(alloc, joined, &one_net), Some(4095));
+    let alone = seated(alloc, harness_of(alloc, 1)?.as_bytes())?;
     assert!(rt; no_net.points() == alone.points());
-    assert_eq!(rt; tested(alloc, alone, &no_net), Some(10));
+    assert_eq!(rt; tested(alloc, alone, &no_net), Some(12));
     Ok(())
 }
 
 #[test]
-fn a_thousand_points_are_learnt(rt: HostRuntime) -> Result<(), Fail> {
+fn the_most_points_are_learnt(rt: HostRuntime) -> Result<(), Fail> {
     let alloc = rt.alloc();
-    for (neighbours, least, most) in [(32, 992, 5983), (1, 1023, 1023), (1024, 1023, 1023)] {
+    for (neighbours, least, most) in [(64, 4032, 28287), (1, 4095, 4095), (4096, 4095, 4095)] {
         assert!(rt; neighbours > 0);
-        let seat = seated(alloc, thousand(alloc, neighbours)?.as_bytes())?;
+        let seat = seated(alloc, harness_of(alloc, neighbours)?.as_bytes())?;
         let (partition, readings) = readings_of(learn(alloc, seat)).ok_or("not learnt")?;
         for p in 0..partition.points() {
             assert_eq!(rt; partition.class_of(Point(p)), Point(p - p % neighbours));

@@ -6,4 +6,4 @@ returns-in-Ok g c = λ words harness is takes. c.compare.ensures words harness _
 
 pub returns-in-Err : goal.returns-in-Err
 returns-in-Err g c = λ words harness is takes.
-    wires_end _ _ c.args.sim c.in-Err.stop (c.args.unit.now.serial, c.args.unit.now.attempt, is) takes c.in-Err.ensures.wires c.close_wires.ensures
+    wires_end _ _ c.args.sim c.in-Err.stop (c.args.unit.now.serial, c.args.unit.now.attempt, is) takes c.in-Err.ensures.wires c.end_without_wires.ensures

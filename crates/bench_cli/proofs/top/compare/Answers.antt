@@ -6,7 +6,7 @@ pub returns-then-wanted-points : goal.returns-then-wanted-points
 returns-then-wanted-points g c = λ words harness wires is takes read.
     let other : c.points-wanted.result ≡ c.points-points.result → ⊥ = search rules in
     difference_ends _ _ c.args.sim c.points-points.result c.points-wanted.result c.args.p.now c.points-points.ensures.points c.points-wanted.ensures.points other
-    (c.args.unit.now.serial, c.args.unit.now.attempt, is) takes read c.close_difference.ensures
+    (c.args.unit.now.serial, c.args.unit.now.attempt, is) takes read c.end_with_difference.ensures
 
 pub returns : goal.returns
 returns g c = λ words harness wires is takes read.

@@ -1,8 +1,9 @@
-use Rattle.std.proofs.Common.{[], ◌∷◌, sym, ◌∙◌, ap, subst}
+use Rattle.std.proofs.Common.{◌≡◌, [], ◌∷◌, Err, sym, ◌∙◌, ap, subst}
+use Rattle.rig.specs.declared.rig.RigStop.TheVariants.{Failed}
 use Rattle.std.specs.Prelude.{All, OnOk}
 use Rattle.rig.specs.Calls.{AreGroups}
 use Rattle.continuity_check.specs.Compared.{compared_with}
-use Rattle.continuity_check.specs.Trials.{Compares}
+use Rattle.continuity_check.specs.Trials.{Compares, StopsAt}
 use Rattle.continuity_check.proofs.Checking.{net_groups, rest_is, compared_in-is}
 use Rattle.continuity_check.proofs.check.check_net.Goals as goal
 
@@ -17,3 +18,10 @@ returns-clause-compares g c =
     (ap (compared_with c.args.name.now c.index-net-0.result) (rest_is c.args.net.now)
     ∙ compared_in-is c.args.name.now c.index-net-0.result c.args.net.now c.requires.net.some c.requires.net.ascending c.index-net-0.is)
     c.check_points.ensures.compares
+
+pub returns-clause-failed : goal.returns-clause-failed
+returns-clause-failed g c =
+    subst (λ l. c.check_points.result ≡ Err Failed → StopsAt (g.R.Rig.state c.args.seat.now) (g.R.Rig.state c.check_points.new.seat) c.args.sheet.now l)
+    (ap (compared_with c.args.name.now c.index-net-0.result) (rest_is c.args.net.now)
+    ∙ compared_in-is c.args.name.now c.index-net-0.result c.args.net.now c.requires.net.some c.requires.net.ascending c.index-net-0.is)
+    c.check_points.ensures.failed

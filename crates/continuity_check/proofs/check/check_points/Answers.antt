@@ -1,7 +1,9 @@
-use Rattle.std.proofs.Common.{[], ◌∷◌, sym, subst}
+use Rattle.std.proofs.Common.{◌+◌, [], ◌∷◌, Err, drop, sym, ap, subst}
 use Rattle.rig.specs.Calls.{AreGroups}
 use Rattle.rig.proofs.Reading.{AreGroups-after, Reads-refused}
-use Rattle.continuity_check.proofs.Checking.{Checking-none, Checking-more, compared_with-more}
+use Rattle.continuity_check.specs.Compared.{compared_with}
+use Rattle.continuity_check.proofs.Comparing.{StopsAt-after, was_failure}
+use Rattle.continuity_check.proofs.Checking.{Checking-none, Checking-more, compared_with-more, compared_with-split}
 use Rattle.continuity_check.proofs.check.check_points.Goals as goal
 
 pub loop-point-init : goal.loop-point-init
@@ -19,3 +21,11 @@ pub loop-point-preserved : goal.loop-point-preserved
 loop-point-preserved g c =
     Checking-more _ _ c.loop-point.invariant c.in_ok-check_point.ensures.reads c.in_ok-check_point.ensures.compares c.in_ok-check_point.ensures.fits
     (compared_with-more c.args.name.now c.args.points.now c.args.head c.loop-point.point-index c.point-item.result c.loop-point-test.true c.point-item.is)
+
+pub returns-in_err-check_point-clause-failed : goal.returns-in_err-check_point-clause-failed
+returns-in_err-check_point-clause-failed g c = λ failed.
+    let points = c.args.points.now in
+    let i = c.loop-point.point-index in
+    StopsAt-after (compared_with c.args.name.now c.args.head (drop (i + 1) points)) c.loop-point.invariant.reads c.loop-point.invariant.compares
+    (c.in_err-check_point.ensures.failed (ap Err (was_failure c.from_residual.result c.from_residual.ensures.1 failed)))
+    (compared_with-split c.args.name.now points c.args.head i c.point-item.result c.loop-point-test.true c.point-item.is)

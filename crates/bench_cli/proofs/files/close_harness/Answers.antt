@@ -1,6 +1,0 @@
-use Rattle.std.proofs.Common.{◌∙◌}
-use Rattle.bench_cli.proofs.TopLemmas.{refused_closes}
-use Rattle.bench_cli.proofs.files.close_harness.Goals as goal
-
-pub returns-in-Ok : goal.returns-in-Ok
-returns-in-Ok g c = refused_closes _ c.args.stop c.in-Refused.refusal c.as_bytes.result.now _ c.in-Refused.is (c.as_bytes.ensures.value ∙ c.in-Ok.ensures) c.closed-in-Ok.ensures

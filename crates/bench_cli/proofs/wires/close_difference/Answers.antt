@@ -1,6 +1,0 @@
-use Rattle.std.proofs.Common.{◌∙◌}
-use Rattle.bench_cli.proofs.TopLemmas.{with_line}
-use Rattle.bench_cli.proofs.wires.close_difference.Goals as goal
-
-pub returns-in-Ok : goal.returns-in-Ok
-returns-in-Ok g c = with_line _ _ _ 13 c.closed.result (c.as_bytes.ensures.value ∙ c.in-Ok.ensures) c.closed.ensures
