@@ -1,0 +1,1 @@
+-- nothing: the crate has tests alone

@@ -1,0 +1,3 @@
+pub mod Harnesses
+pub mod Units
+pub mod Programs
