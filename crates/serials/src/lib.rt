@@ -30,6 +30,3 @@ pub use date::date_text;
 pub use decision::{Decision, Rule};
 pub use facts::SerialFacts;
 pub use reading::read_command;
-
-#[cfg(test)]
-mod tests;
