@@ -22,6 +22,7 @@ use Rattle.applications.specs.Measuring.{StopsAtRest}
 use Rattle.applications.specs.Each.{AllHold, AreSides, FailedAt, HasStoodTallies, StandsAll, StandsEach, StoodAll}
 use Rattle.applications.specs.Standing.{BreaksOnce, EndsBroken, IsStanding, StandsOnce, TellsBetween}
 use Rattle.applications.proofs.Counted.{gains-append, gains-less, gains-none, tallies-more}
+use Rattle.applications.proofs.Lasting.{lasting-before}
 use Rattle.applications.proofs.Runs.{Runs-none, Runs-then}
 
 -- ---- applications, one after the other
@@ -104,6 +105,7 @@ StoodAll-none bonds s test = record {
   standing = tt;
   counts = gains-less (omega arith) (omega arith) (omega arith) (omega arith) (gains-none 0);
   truth = λ honest. hold_none s.truth s.points test;
+  discharged = λ some. absurd (omega arith);
 }
 
 pub StoodAll-all : {bonds : List ℕ} {s t : RigState} {pairs : List Sides} {test : Endurance} (i : ℕ) → StoodAll bonds s t (take i pairs) test → length pairs ≤ i → StoodAll bonds s t pairs test
@@ -130,6 +132,7 @@ module _ {bonds : List ℕ} {s t : RigState} {test : Endurance} {done : List Sid
     truth = λ honest.
         hold_more s.truth s.points test done pair (made.truth honest)
         (between-before pair.left pair.right (λ f. HoldsBelow f test.nanoamps (test.volts + 50)) made.runs.happens once.truth honest);
+    discharged = λ some. lasting-before None made.runs.happens once.discharged;
   }
 
 pub StoodAll-more : {bonds : List ℕ} {s t u : RigState} (pairs : List Sides) {test : Endurance} (i : ℕ) (pair : Sides)
@@ -161,6 +164,7 @@ failed-at {bonds} {s} {t} {u} {pairs} {test} {broken} i pair made less here once
       subst P (length_take i pairs (omega arith)) (gains-less (omega arith) (omega arith) (omega arith) (omega arith) (gains-append made.counts once.counts));
   truth = made.truth;
   broke = between-before pair.left pair.right (λ f. HoldsBelow f test.nanoamps broken.volts × (broken.leak ≡ f broken.volts)) made.runs.happens once.truth;
+  discharged = lasting-before None made.runs.happens once.discharged;
 }
 
 -- the slices as the groups of a pair

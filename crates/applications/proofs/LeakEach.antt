@@ -13,6 +13,7 @@ use Rattle.applications.specs.Counting.{Gains}
 use Rattle.applications.specs.Each.{AreSides, MeasuresAll, MeasuresEach, leak_between}
 use Rattle.applications.specs.Measuring.{IsMeasuring, Measures, StopsAtRest}
 use Rattle.applications.proofs.Counted.{gains-append, gains-less, gains-none}
+use Rattle.applications.proofs.Lasting.{lasting-before}
 use Rattle.applications.proofs.Runs.{Runs-none, Runs-then}
 
 -- ---- applications, one after the other
@@ -68,6 +69,7 @@ Each-none bonds s v t = record {
   measured = tt;
   counts = gains-less (omega arith) (omega arith) (omega arith) (omega arith) (gains-none 0);
   truth = λ honest. leaks_none (λ rows. leak_between rows s.points v) s.truth;
+  discharged = λ some. absurd (omega arith);
 }
 
 Each-push : {bonds : List ℕ} {s t u : RigState} {done : List Sides} {v k : ℕ} {leaks : List Leak} (pair : Sides) (leak : Leak)
@@ -88,6 +90,7 @@ Each-push {bonds} {s} {t} {u} {done} {v} {k} {leaks} pair leak made measures = r
       let Q : Option (List Row) → ℕ → Type 0 = λ o n. IfSome o (λ rows. leak ≡ leak_of rows n pair.left pair.right v) in
       leaks_true (λ rows. leak_between rows s.points v) s.truth done pair leaks leak (made.truth honest)
       (subst (λ o. Q o s.points) (Happens-truth one) (subst (λ n. Q t.truth n) (Happens-points one) (measures.truth (subst IsTrue (sym (Happens-honest one)) honest))));
+  discharged = λ some. lasting-before None made.runs.happens measures.discharged;
 }
 
 pub Each-more : {bonds : List ℕ} {s t u : RigState} {v k : ℕ} {leaks more : List Leak} (pairs : List Sides) (i : ℕ) (pair : Sides) (leak : Leak)

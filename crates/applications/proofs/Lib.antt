@@ -3,6 +3,7 @@ pub mod Climbing
 pub mod Held
 pub mod Resting
 pub mod NotCharged
+pub mod Lasting
 pub mod Together
 pub mod InOrder
 pub mod Counted

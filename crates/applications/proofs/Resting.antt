@@ -148,7 +148,7 @@ opens-keep k n (Zero done) h = h
 opens-keep k n (Residual v) h = h
 opens-keep k n Tick h = h
 
-opens-all : (k : ℕ) (es : List Event) (s : RigState) → min k (2 ^ 64 - 1) ≤ s.opens → min k (2 ^ 64 - 1) ≤ (happened_all es s).opens
+pub opens-all : (k : ℕ) (es : List Event) (s : RigState) → min k (2 ^ 64 - 1) ≤ s.opens → min k (2 ^ 64 - 1) ≤ (happened_all es s).opens
 opens-all k [] s h = h
 opens-all k (e ∷ es) s h = opens-all k es (happened e s) (opens-keep k s.opens e h)
 

@@ -1,5 +1,5 @@
 -- Events that leave the source at rest, one after the other, and stops after them.
-use Rattle.std.proofs.Common.{◌≡◌, ℕ, ◌≤◌, false, List, [], ◌∷◌, ◌++◌, Option, None, Result, Ok, Err, refl, sym, ◌∙◌, ap, subst, append_assoc}
+use Rattle.std.proofs.Common.{◌≡◌, ℕ, ◌≤◌, false, List, [], ◌∷◌, ◌++◌, Option, Some, None, Result, Ok, Err, refl, sym, ◌∙◌, ap, subst, append_assoc}
 use Rattle.std.specs.Prelude.{IfErr, IsErrAnd}
 use Rattle.std.proofs.lemmas.List.Elements.{All-append, All-nil}
 use Rattle.base.specs.Causes.{Rose}
@@ -17,6 +17,7 @@ use Rattle.rig.proofs.Order.{MayFollowAll-append, source_from-append}
 use Rattle.applications.specs.declared.stop.HvStop.{HvStop}
 use Rattle.applications.specs.declared.stop.HvStop.TheVariants.{InterlockOpen, NotDischarged, RigWhileSafe, RigBefore, NotZero, Memory}
 use Rattle.applications.specs.Measuring.{HvStopped, IsNoFailedZero, Measures, Runs, StopsAtRest, StopsCharged, StopsOpen, StopsStuck}
+use Rattle.applications.proofs.Lasting.{lasting-before}
 use Rattle.applications.proofs.NotCharged.{charged-append, charged-none}
 use Rattle.applications.proofs.Resting.{opens-rose, rest-append, rest-none}
 
@@ -68,6 +69,7 @@ module _ {bonds : List ℕ} {s t : RigState} {xs : List Event} (first : Runs bon
           above = charged.above;
           waited = λ x. let P : Source → Type 0 = λ y. most_waits ≤ y.ticks in subst P (sym (source_from-append x xs charged.before)) (charged.waited (source_from x xs));
         };
+        lasts = lasting-before (Some v) first.happens stops.lasts;
       }
 
   stuck-after : {u : RigState} → StopsStuck bonds t u → StopsStuck bonds s u

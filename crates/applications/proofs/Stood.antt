@@ -14,6 +14,7 @@ use Rattle.rig.specs.declared.unit.Row.{Row}
 use Rattle.rig.specs.RigState.{RigState, Groups}
 use Rattle.rig.specs.Discharge.{WaitEnds, Waits, waited}
 use Rattle.rig.specs.Powered.{GoesDown, IsStuck, stop_cause}
+use Rattle.rig.specs.Source.{source_after}
 use Rattle.rig.specs.Values.{leak_of}
 use Rattle.rig.proofs.Happening.{Happens-honest, Happens-points, Happens-truth}
 use Rattle.applications.specs.declared.endurance.Breakdown.{Breakdown}
@@ -25,9 +26,10 @@ use Rattle.applications.specs.Holding.{BreaksOff, IsCalm}
 use Rattle.applications.specs.Measuring.{FinishStops, Finishes, HvStopped, Runs, Starts, StopsAtRest, StopsOpen, StopsStuck, tick_count}
 use Rattle.applications.specs.Enduring.{Breaks, Endures, Held, HoldsBelow, IsNoLeak, LeaksBetween, TellsLeaks}
 use Rattle.applications.specs.Standing.{BreaksOnce, Stands, StandsOnce, TellsBetween}
-use Rattle.applications.proofs.Allowed.{allowed-append, leak_leads}
+use Rattle.applications.proofs.Allowed.{Leads-append, allowed-append, leak_leads}
 use Rattle.applications.proofs.Climbing.{calm_done, calm_source, one_of}
 use Rattle.applications.proofs.Counted.{gain_leak, gain_route, gains-append, gains-less, last_gains, waited_gains, zeros_gains}
+use Rattle.applications.proofs.Lasting.{discharged-none, leads-raised, raise-raised}
 use Rattle.applications.proofs.Parts.{within-append}
 use Rattle.applications.proofs.Resting.{last-cases, zeros}
 use Rattle.applications.proofs.Together.{Powering, broken-powering, charged-runs, down-runs, open-runs, rests-now, stops-memory, stuck-runs, wait-runs, zeros-split}
@@ -117,6 +119,9 @@ module _ (bonds a b : List ℕ) (apart : Meets bonds a b → ⊥) {s p : RigStat
         };
         counts = subst (Gains 0 0 1 (v / 50) t t) whole counts;
         truth = tells-groups (λ f. HoldsBelow f test.nanoamps (v + 50)) held.truth;
+        discharged =
+            discharged-none (Route a b ∷ es) down.failed (down-runs bonds a b apart q starts (held-powering test held) down).happens
+            (λ x. raise-raised held.climb v held.dwell (source_after x (Route a b))) waits;
       }
 
   broke-once : {r w : RigState} (test : Endurance) (broken : Breakdown) → Breaks p q test.volts test.nanoamps broken → GoesDown q r → Waits r w (Ok None) → BreaksOnce bonds s w a b test broken
@@ -143,6 +148,9 @@ module _ (bonds a b : List ℕ) (apart : Meets bonds a b → ⊥) {s p : RigStat
             (gains-append (gains-append (gain_route 0 a b) (gains-append (gains-append h.part.gains (gain_leak v g)) (zeros_gains v down.failed)))
             (gains-append (waited_gains 0 waits.waits) (last_gains 0 (Ok None) waits.waits waits.last waits.ends)));
         truth = tells-groups (λ f. HoldsBelow f test.nanoamps v × (g ≡ f v)) h.truth;
+        discharged =
+            discharged-none (Route a b ∷ es) down.failed (down-runs bonds a b apart q starts (breaks-powering test.volts test.nanoamps broken h) down).happens
+            (λ x. leads-raised (Leads-append h.part.leads (leak_leads v g)) h.some (source_after x (Route a b))) waits;
       }
 
   -- ---- the exits

@@ -17,6 +17,7 @@ use Rattle.rig.specs.Calls.{Routes}
 use Rattle.rig.specs.Discharge.{Waits, waited}
 use Rattle.rig.specs.Happened.{Happens, IsDone, happened_all}
 use Rattle.rig.specs.Powered.{GoesDown, IsStuck, stop_cause}
+use Rattle.rig.specs.Source.{source_after}
 use Rattle.rig.specs.Trail.{IsOfSource}
 use Rattle.rig.specs.Values.{leak_of}
 use Rattle.rig.proofs.CallEvents.{Happens-route}
@@ -31,6 +32,7 @@ use Rattle.applications.specs.Counting.{Gains}
 use Rattle.applications.proofs.Counted.{dwelling_gains, gain_leak, gain_route, gains-append, gains-less, last_gains, ramp_gains, waited_gains, zeros_gains}
 use Rattle.applications.proofs.Climbing.{calm_done, calm_source, dwelling-calm, one_of, ramp-calm}
 use Rattle.applications.proofs.Held.{whole_steps}
+use Rattle.applications.proofs.Lasting.{charged-some, discharged-none, leads-raised}
 use Rattle.applications.proofs.NotCharged.{IsNoCharge, charged-none, charged-other, charged-wait, charged-zeros, waited-since}
 use Rattle.applications.proofs.Resting.{held-rest, held-stuck, last-done, last-of_source, last-rest, opens-rose, rest-append, rest-none, waited-done, waited-of_source, waited-rest, zeros, zeros-done, zeros-no_door, zeros-of_source}
 
@@ -261,6 +263,7 @@ module _ (bonds a b : List ℕ) (apart : Meets bonds a b → ⊥) {s p : RigStat
           above = waits.ends.0;
           waited = λ x. let since = waited-since (Route a b ∷ es) down.failed waits.waits x in let count = waits.ends.1 in omega arith;
         };
+        lasts = charged-some (Route a b ∷ es) down.failed (down-runs powering down).happens waits;
       }
 
   -- one whole application
@@ -285,6 +288,11 @@ module _ (bonds a b : List ℕ) (apart : Meets bonds a b → ⊥) {s p : RigStat
             subst (λ o. Q o (Some (record { left = a; right = b })) s.points) (Happens-truth one)
             (subst (λ n. Q p.truth (Some (record { left = a; right = b })) n) (Happens-points one)
             (subst (λ x. Q p.truth x p.points) (ap (λ (x : RigState). x.route) one.frame) (holds.truth (subst IsTrue (sym (Happens-honest one)) honest))));
+        discharged =
+            let at : v ≡ 50 * (v / 50) = let whole = whole_steps v by in omega arith in
+            let leads = Leads-append (Leads-append (ramp_leads (v / 50) (omega arith)) (dwelling_leads (50 * (v / 50)) ticks)) (leak_leads (50 * (v / 50)) g) in
+            discharged-none (Route a b ∷ (ramp (v / 50) ++ dwelling ticks ++ Leak g ∷ [])) down.failed (down-runs (holds-powering by most holds) down).happens
+            (λ x. leads-raised leads (omega arith) (source_after x (Route a b))) waits;
       }
 
   -- ---- the exits

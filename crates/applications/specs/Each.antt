@@ -15,6 +15,7 @@ use Rattle.rig.specs.Values.{leak_of}
 use Rattle.applications.specs.declared.endurance.Endurance.{Endurance}
 use Rattle.applications.specs.declared.sides.Sides.{Sides}
 use Rattle.applications.specs.declared.standing_each.PairBreakdown.{PairBreakdown}
+use Rattle.applications.specs.Charge.{HasLasting}
 use Rattle.applications.specs.Counting.{Gains, TalliesMore}
 use Rattle.applications.specs.Enduring.{HoldsBelow}
 use Rattle.applications.specs.Measuring.{IsMeasuring, Runs}
@@ -46,6 +47,7 @@ pub record MeasuresEach (bonds : List ℕ) (old new : RigState) (pairs : List Si
   pub measured : MeasuresAll v t pairs leaks events
   pub counts : Gains 0 0 (length pairs) (length pairs * (v / 50)) (length pairs * t) (length pairs) events
   pub truth : IsTrue old.honest → IfSome old.truth (λ rows. leaks ≡ map (leak_between rows old.points v) pairs)
+  pub discharged : 0 < length pairs → HasLasting old None
 
 -- ---- up to a breakdown
 
@@ -66,6 +68,7 @@ pub record StoodAll (bonds : List ℕ) (old new : RigState) (pairs : List Sides)
   pub standing : StandsAll test.volts test.ticks test.nanoamps pairs events
   pub counts : Gains 0 0 (length pairs) (length pairs * (test.volts / 50)) (length pairs * test.ticks) (length pairs * test.ticks) events
   pub truth : IsTrue old.honest → IfSome old.truth (λ rows. AllHold rows old.points test pairs)
+  pub discharged : 0 < length pairs → HasLasting old None
 
 -- The pairs before this one stood, and this one broke down. Of an honest rig, this is the first pair and in it the first step
 -- that breaks down.
@@ -83,6 +86,7 @@ pub record FailedAt (bonds : List ℕ) (old new : RigState) (pairs : List Sides)
   pub truth : IsTrue old.honest → IfSome old.truth (λ rows. AllHold rows old.points test (take failed.pair pairs))
   pub broke : TellsBetween old pair.left pair.right (λ leak_at.
       HoldsBelow leak_at test.nanoamps failed.broken.volts × (failed.broken.leak ≡ leak_at failed.broken.volts))
+  pub discharged : HasLasting old None
 
 abbrev pub StandsEach : List ℕ → RigState → RigState → List Sides → Endurance → Option PairBreakdown → Type 0
 StandsEach bonds old new pairs test None = StoodAll bonds old new pairs test

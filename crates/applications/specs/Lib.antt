@@ -6,3 +6,4 @@ pub mod Enduring
 pub mod Standing
 pub mod Ordered
 pub mod Each
+pub mod Charge

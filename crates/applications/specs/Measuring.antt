@@ -21,6 +21,7 @@ use Rattle.rig.specs.HvOrder.{MayFollowAll}
 use Rattle.rig.specs.Source.{Source, source_from}
 use Rattle.rig.specs.Trail.{IsOfSource}
 use Rattle.rig.specs.Values.{leak_of}
+use Rattle.applications.specs.Charge.{HasLasting}
 use Rattle.applications.specs.Counting.{Gains}
 use Rattle.applications.specs.declared.stop.HvStop.{HvStop}
 use Rattle.applications.specs.declared.stop.HvStop.TheVariants.{InterlockOpen, NotDischarged, RigWhileSafe, RigBefore, NotZero, Memory}
@@ -97,7 +98,7 @@ pub record Runs (bonds : List ℕ) (old new : RigState) (events : List Event) (s
   pub no_fault : (stop ≡ Some Failed → ⊥) → All IsNoFailedZero events → new.faults ≡ old.faults
   pub not_charged : IsNotCharged events
 
--- One application was made; an honest rig read the leak of the unit between the groups.
+-- One application was made; an honest rig read the leak of the unit between the groups, and no charge lasts on the unit.
 pub record Measures (bonds : List ℕ) (old new : RigState) (a b : List ℕ) (v t : ℕ) (leak : LeakReading) : Type 0 where
   pub run : List Event
   pub rest : List Event
@@ -105,6 +106,7 @@ pub record Measures (bonds : List ℕ) (old new : RigState) (a b : List ℕ) (v 
   pub measuring : IsMeasuring a b v t leak run
   pub counts : Gains 0 0 1 (v / 50) t 1 (run ++ rest)
   pub truth : IsTrue old.honest → IfSome old.truth (λ rows. leak ≡ leak_of rows old.points a b v)
+  pub discharged : HasLasting old None
 
 -- the last Door is open
 pub record EndsOpen (events : List Event) : Type 0 where
@@ -131,7 +133,7 @@ pub record StopsOpen (bonds : List ℕ) (old new : RigState) : Type 0 where
   pub door : EndsOpen events
   pub opens : Rose old.opens new.opens
 
--- the same, with the unit charged to v volts
+-- the same, with the unit charged to v volts: of an honest rig's unit these last
 pub record StopsCharged (bonds : List ℕ) (old new : RigState) (v : ℕ) : Type 0 where
   pub events : List Event
   pub happens : Happens old new events None
@@ -139,6 +141,7 @@ pub record StopsCharged (bonds : List ℕ) (old new : RigState) (v : ℕ) : Type
   pub rest : StaysAtRest bonds events
   pub no_fault : All IsNoFailedZero events → new.faults ≡ old.faults
   pub charged : EndsCharged events v
+  pub lasts : HasLasting old (Some v)
 
 pub record StopsStuck (bonds : List ℕ) (old new : RigState) : Type 0 where
   pub events : List Event

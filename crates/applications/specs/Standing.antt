@@ -11,6 +11,7 @@ use Rattle.rig.specs.Happened.{volts_all}
 use Rattle.rig.specs.Values.{leak_of}
 use Rattle.applications.specs.declared.endurance.Breakdown.{Breakdown}
 use Rattle.applications.specs.declared.endurance.Endurance.{Endurance}
+use Rattle.applications.specs.Charge.{HasLasting}
 use Rattle.applications.specs.Counting.{Gains}
 use Rattle.applications.specs.Enduring.{AllWithin, HoldsBelow, IsNoLeak, IsNoZero, LeaksBetween, breaks_down}
 use Rattle.applications.specs.Measuring.{IsNoRoute, Runs, tick_count}
@@ -61,6 +62,7 @@ pub record StandsOnce (bonds : List ℕ) (old new : RigState) (a b : List ℕ) (
   pub standing : IsStanding a b test.volts test.ticks test.nanoamps run
   pub counts : Gains 0 0 1 (test.volts / 50) test.ticks test.ticks (run ++ rest)
   pub truth : TellsBetween old a b (λ leak. HoldsBelow leak test.nanoamps (test.volts + 50))
+  pub discharged : HasLasting old None
 
 -- One application was made, up to a breakdown.
 pub record BreaksOnce (bonds : List ℕ) (old new : RigState) (a b : List ℕ) (test : Endurance) (broken : Breakdown) : Type 0 where
@@ -70,6 +72,7 @@ pub record BreaksOnce (bonds : List ℕ) (old new : RigState) (a b : List ℕ) (
   pub is : IsBreakdown test broken.volts broken.leak
   pub counts : Gains 0 0 1 (broken.volts / 50) 0 1 events
   pub truth : TellsBetween old a b (λ leak. HoldsBelow leak test.nanoamps broken.volts × (broken.leak ≡ leak broken.volts))
+  pub discharged : HasLasting old None
 
 abbrev pub Stands : List ℕ → RigState → RigState → List ℕ → List ℕ → Endurance → Option Breakdown → Type 0
 Stands bonds old new a b test None = StandsOnce bonds old new a b test

@@ -12,7 +12,8 @@
 //!   failed.
 //! - [`HvStop`] says why a test was stopped and hands back what is left; specs/Measuring.antt says when each of its cases comes.
 //! - Where an honest rig tells the unit, a leak is that of the unit between the two groups, and the first breakdown is the
-//!   first that the unit has.
+//!   first that the unit has; the volts of a unit that was not discharged are those of its charge, and where an application
+//!   was made to its end, no charge lasts (specs/Charge.antt).
 #![tactic(auto)]
 
 mod endurance;

@@ -42,6 +42,12 @@ length-cluster_pairs p = go (leb 2 (cluster_count p)) refl
 pub cluster_pairs-none : (p : Program) → cluster_count p ≤ 1 → cluster_pairs p ≡ []
 cluster_pairs-none p alone = rw (lt-leb 2 (cluster_count p) (omega arith)) refl
 
+-- where there are two clusters there are pairs
+pairs-more : (p : Program) → 2 ≤ cluster_count p → 0 < length (cluster_pairs p)
+pairs-more p two =
+    let size : tested_clusters (cluster_count p) ≡ cluster_count p = rw (le-leb 2 (cluster_count p) two) refl in
+    omega (arith, length-cluster_pairs p)
+
 tested-none : (count : ℕ) → count ≤ 1 → tested_clusters count ≡ 0
 tested-none count alone = rw (lt-leb 2 count (omega arith)) refl
 
@@ -96,6 +102,7 @@ module _ (p : Program) (ok : IsClusterable p) (test : Insulation) {s : RigState}
         let P : ℕ → Type 0 = λ n. Gains 0 0 n (n * (test.volts / 50)) (n * test.ticks) n made.events in
         subst P (length-cluster_pairs p) made.counts;
     truth = λ honest. of_truth s.truth (made.truth honest);
+    discharged = λ enough. made.discharged (pairs-more p enough);
   }
     where
       of_truth : (o : Option (List Row)) → IfSome o (λ rows. leaks ≡ map (leak_between rows s.points test.volts) (cluster_pairs p)) → IfSome o (λ rows. faults ≡ insulation_faults p rows test)
@@ -121,6 +128,7 @@ module _ (p : Program) (ok : IsClusterable p) (test : Insulation) (s : RigState)
             let P : ℕ → Type 0 = λ n. Gains 0 0 n (n * (test.volts / 50)) (n * test.ticks) n [] in
             subst P (sym (tested-none (cluster_count p) alone)) (gains-less (omega arith) (omega arith) (omega arith) (omega arith) (gains-none 0));
         truth = λ honest. of_truth s.truth;
+        discharged = λ two. absurd (omega arith);
       }
     where
       of_truth : (o : Option (List Row)) → IfSome o (λ rows. faults ≡ insulation_faults p rows test)

@@ -1,5 +1,5 @@
 -- The test of withstand, as that of a program.
-use Rattle.std.proofs.Common.{◌≡◌, ℕ, ◌+◌, ◌-◌, ◌*◌, ◌/◌, ◌<◌, ◌≤◌, ◌^◌, true, false, List, [], length, map, take, get_or, Option, Some, None, IsTrue, refl, sym, ◌∙◌, ap, subst, arith, zero-add}
+use Rattle.std.proofs.Common.{◌≡◌, ℕ, zero, suc, ◌+◌, ◌-◌, ◌*◌, ◌/◌, ◌<◌, ◌≤◌, ◌^◌, true, false, List, [], length, map, take, get_or, Option, Some, None, IsTrue, refl, sym, ◌∙◌, ap, subst, arith, zero-add}
 use Rattle.std.specs.Prelude.{IfSome}
 use Rattle.std.proofs.lemmas.List.{get_or-take, length-take-le}
 use Rattle.std.proofs.lemmas.List.FromFn.{get_or-map-range_with_len, length-map-range_with_len}
@@ -49,6 +49,17 @@ bits-none count alone =
 
 pub bit_pairs-none : (p : Program) → cluster_count p ≤ 1 → bit_pairs p ≡ []
 bit_pairs-none p alone = ap (λ (n : ℕ). map (sides_of_bit p) (points_below n)) (bits-none (cluster_count p) alone)
+
+-- where there are two clusters there are bits
+digits-some : (n : ℕ) → 0 < n → 0 < digits_of n
+digits-some n some = at (digits_of n) (digits_enough n)
+  where
+    at : (d : ℕ) → n < 2 ^ d → 0 < d
+    at zero below = absurd (omega arith)
+    at (suc d) below = omega arith
+
+bits-more : (p : Program) → 2 ≤ cluster_count p → 0 < length (bit_pairs p)
+bits-more p two = omega (arith, length-bit_pairs p, digits-some (cluster_count p - 1) (omega arith))
 
 -- no more clusters than nets
 clusters-few : (p : Program) → cluster_count p ≤ net_count p.nets
@@ -103,6 +114,7 @@ module _ (p : Program) (ok : IsClusterable p) (test : Withstand) {s t : RigState
       counts =
           let P : ℕ → Type 0 = λ w. Gains 0 0 w (w * (test.volts / 50)) (w * test.ticks) (w * test.ticks) made.events in
           subst P (length-bit_pairs p) made.counts;
+      discharged = λ enough. made.discharged (bits-more p enough);
     };
     truth = λ honest. of_truth s.truth (subst (λ (n : ℕ). IfSome s.truth (λ rows. AllHold rows n (endurance_of test) (bit_pairs p))) points (made.truth honest));
   }
@@ -133,6 +145,7 @@ module _ (p : Program) (ok : IsClusterable p) (test : Withstand) {s t : RigState
           on_trail = on_trail (EndsFailed p (fault_of failed)) made.runs.happens
               (λ before. (leak, refl, broken-before (side p failed.pair false) (side p failed.pair true) v leak before made.events last));
           counts = made.counts;
+          discharged = made.discharged;
         };
         truth = λ honest.
             of_truth bit step made.is.above s.truth
@@ -175,6 +188,7 @@ module _ (p : Program) (test : Withstand) (s : RigState) where
           counts =
               let P : ℕ → Type 0 = λ w. Gains 0 0 w (w * (test.volts / 50)) (w * test.ticks) (w * test.ticks) [] in
               subst P (sym (bits-none (cluster_count p) alone)) (gains-less (omega arith) (omega arith) (omega arith) (omega arith) (gains-none 0));
+          discharged = λ two. absurd (omega arith);
         };
         truth = λ honest. of_truth s.truth;
       }

@@ -2,7 +2,7 @@
 --     insulation_faults p rows test   the faults of a unit: each cluster that arcs or leaks too much against all other judged points
 --     Measured p test leaks events    among the events one application for each cluster, in order
 --     Insulates ..                    the test was made, with these faults
-use Rattle.std.specs.Prelude.{◌≡◌, ◌+◌, ◌*◌, ◌/◌, ℕ, Bool, true, nat_lt, List, [], ◌∷◌, ◌++◌, map, All, IsTrue, IfSome, None, if◌then◌else◌}
+use Rattle.std.specs.Prelude.{◌≡◌, ◌+◌, ◌*◌, ◌/◌, ◌≤◌, ℕ, Bool, true, nat_lt, List, [], ◌∷◌, ◌++◌, map, All, IsTrue, IfSome, None, if◌then◌else◌}
 use Rattle.rig.specs.declared.event.Event.{Event}
 use Rattle.rig.specs.declared.event.Leak.{Leak}
 use Rattle.rig.specs.declared.event.Leak.TheVariants.{Arc, PicoSiemens}
@@ -14,6 +14,7 @@ use Rattle.wirelist.specs.declared.program.Insulation.{Insulation}
 use Rattle.wirelist.specs.declared.program.Program.{Program}
 use Rattle.wirelist.specs.Clusters.{cluster_classes, cluster_count, clusters_of, others}
 use Rattle.wirelist.specs.Ranges.{IsReading}
+use Rattle.applications.specs.Charge.{HasLasting}
 use Rattle.applications.specs.Counting.{Gains}
 use Rattle.applications.specs.Each.{MeasuresAll}
 use Rattle.applications.specs.Measuring.{Runs}
@@ -65,3 +66,5 @@ pub record Insulates (p : Program) (test : Insulation) (old new : RigState) (fau
   pub faults_are : faults ≡ faults_from test.megohms 0 leaks
   pub counts : let n = tested_clusters (cluster_count p) in Gains 0 0 n (n * (test.volts / 50)) (n * test.ticks) n events
   pub truth : IsTrue old.honest → IfSome old.truth (λ rows. faults ≡ insulation_faults p rows test)
+  -- with two clusters or more, no charge lasts on the unit
+  pub discharged : 2 ≤ cluster_count p → HasLasting old None

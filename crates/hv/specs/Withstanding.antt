@@ -14,6 +14,7 @@ use Rattle.wirelist.specs.Clusters.{cluster_classes, cluster_count, side}
 use Rattle.wirelist.specs.Ranges.{IsReading, IsTestVoltage, most_bits}
 use Rattle.applications.specs.declared.endurance.Endurance.{Endurance}
 use Rattle.applications.specs.declared.standing_each.PairBreakdown.{PairBreakdown}
+use Rattle.applications.specs.Charge.{HasLasting}
 use Rattle.applications.specs.Counting.{Gains, TalliesMore}
 use Rattle.applications.specs.Each.{StandsAll}
 use Rattle.applications.specs.Enduring.{HoldsBelow, breaks_down}
@@ -66,6 +67,8 @@ pub record StandsWhole (p : Program) (test : Withstand) (old new : RigState) : T
   pub stood : Stood p test events
   pub on_trail : IfSome new.trail (Stood p test)
   pub counts : let w = tested_bits (cluster_count p) in Gains 0 0 w (w * (test.volts / 50)) (w * test.ticks) (w * test.ticks) events
+  -- with two clusters or more, no charge lasts on the unit
+  pub discharged : 2 ≤ cluster_count p → HasLasting old None
 
 -- the last Leak of the events, under the Route of the fault's bit at its volts, is the one that the fault states
 abbrev pub EndsFailed : Program → WithstandFault → List Event → Type 0
@@ -82,6 +85,7 @@ pub record Fails (p : Program) (test : Withstand) (old new : RigState) (fault : 
   pub last : EndsFailed p fault events
   pub on_trail : IfSome new.trail (EndsFailed p fault)
   pub counts : let j = fault.bit in Gains 0 0 (j + 1) (j * (test.volts / 50) + fault.volts / 50) (j * test.ticks) (j * test.ticks + 1) events
+  pub discharged : HasLasting old None
 
 abbrev pub WithstandsSo : Program → Withstand → RigState → RigState → Option WithstandFault → Type 0
 WithstandsSo p test old new None = StandsWhole p test old new
