@@ -28,6 +28,17 @@ impl Model for CallNumbers {
 }
 
 impl CallNumbers {
+    ghost use Rattle.std.specs.Prelude.{[]};
+
+    /// No numbers.
+    pub fn new(alloc: Global) -> Self
+        ensures { result ≡ [] }
+    {
+        CallNumbers {
+            numbers: BTreeSet::new(alloc),
+        }
+    }
+
     /// Whether the number is listed. Takes no memory.
     pub fn contains(&self, number: u64) -> bool
         ensures { IsTrue result ↔ Contains self.now number }

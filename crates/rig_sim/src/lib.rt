@@ -2,7 +2,7 @@
 //!
 //! - [`SimRig::read`] takes a harness file. A file in form gives the rig of its rows: its points, its units with their rows, the
 //!   calls that fail and the interlock readings that are open (specs/SimRig.antt, `IsNew`). Every other file is refused as
-//!   [`harness::Harness::read`] says.
+//!   [`harness::Harness::read`] says. [`SimRig::of_harness`] takes a harness that was made otherwise.
 //! - [`SimRig`] is a [`rig::Rig`] that is honest and tells its units, the seated unit's rows, the trail and the tallies. Its
 //!   k-th call, counted from the reading of the file, fails exactly where the file has a `fault` row with k or where the call
 //!   finds its own count at the last value (`Counts`). Its k-th interlock reading that did not fail is open exactly where the

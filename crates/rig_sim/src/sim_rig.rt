@@ -71,8 +71,8 @@ impl SimRig {
         Ok(Self::of_harness(alloc, harness)?)
     }
 
-    /// The rig of a harness.
-    fn of_harness(alloc: Global, harness: Harness) -> Result<Self, Memory>
+    /// The rig of a harness, which no call was asked yet.
+    pub fn of_harness(alloc: Global, harness: Harness) -> Result<Self, Memory>
         requires { IsSound harness }
         ensures rows { IfOk result (λ sim. (rows : List HarnessRow) → IsOfRows rows harness → IsNew rows sim) }
         ensures small { IfOk result (λ sim. IfSome sim.state.units (All (HasSmallConductance sim.state.points))) }
