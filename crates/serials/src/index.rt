@@ -104,7 +104,7 @@ pub(crate) fn history(units: &BTreeMap<Name, SerialFacts>, serial: &Name) -> Ser
 }
 
 /// The serial that the fields of a record name.
-fn serial_of(body: &Body) -> Option<Name>
+pub(crate) fn serial_of(body: &Body) -> Option<Name>
     ensures { result ≡ serial_in body.now }
 {
     match body {
