@@ -1,0 +1,4 @@
+pub mod Wired
+pub mod Stages
+pub mod Whole
+pub mod Halted

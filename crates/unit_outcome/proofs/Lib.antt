@@ -1,0 +1,2 @@
+pub mod FirstBreakdown
+pub mod Told
