@@ -1,0 +1,6 @@
+pub mod Ending
+pub mod Applying
+pub mod Stopping
+pub mod Following
+pub mod Days
+pub mod Repeating

@@ -1,0 +1,9 @@
+pub mod Commands
+pub mod Step
+pub mod View
+pub mod Ended
+pub mod RigAfter
+pub mod Applied
+pub mod Mounted
+pub mod AnswerText
+pub mod Laws
