@@ -1,0 +1,17 @@
+pub mod Closing
+pub mod Said
+pub mod After
+pub mod Scene
+pub mod Saying
+pub mod Turns
+pub mod Ends
+pub mod Growth
+pub mod Headline
+pub mod Asking
+pub mod RigLines
+pub mod Ran
+pub mod Causes
+pub mod Keeping
+pub mod Refused
+pub mod Opened
+pub mod Shown
