@@ -1,0 +1,4 @@
+pub mod Labels
+pub mod OutcomeLines
+pub mod VerdictText
+pub mod FirstNets
