@@ -1,0 +1,3 @@
+pub mod RowsAnswered
+pub mod Input
+pub mod Imported
