@@ -1,0 +1,10 @@
+pub mod Routing
+pub mod FindsPages
+pub mod BodyLemmas
+pub mod Verbs
+pub mod FieldLemmas
+pub mod AskedLemmas
+pub mod HeadLemmas
+pub mod AsksLemmas
+pub mod TakingLemmas
+pub mod ReplyLemmas

@@ -1,0 +1,5 @@
+pub mod TellingLemmas
+pub mod VisitingLemmas
+pub mod TurnLemmas
+pub mod EndLemmas
+pub mod KeepingLemmas

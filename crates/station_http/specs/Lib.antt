@@ -1,0 +1,4 @@
+pub mod Expected
+pub mod Commanded
+pub mod Turns
+pub mod Served
