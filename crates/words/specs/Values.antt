@@ -1,0 +1,28 @@
+-- The values of a command's options, as `clap` has them. A new command has a line here.
+use Rattle.std.specs.Prelude.{◌≡◌, ℕ, Option, Some, codes, decimal, ⊤}
+use Rattle.words.specs.Items.{Text}
+use Rattle.words.specs.Words.{IsUnitName, IsSize}
+use Rattle.words.specs.declared.forms.Verb.{Verb}
+use Rattle.words.specs.declared.forms.Verb.TheVariants as verb
+use Rattle.words.specs.declared.command.Command.{Command}
+use Rattle.words.specs.declared.command.Command.TheVariants.{Continuity, Learn, Run, Soak}
+use Rattle.words.specs.declared.command.UnitName.{UnitName}
+
+-- the values name the unit
+pub record NamesUnit (value : Text → Option Text) (unit : UnitName) : Type 0 where
+  pub serial : value (codes "serial") ≡ Some unit.serial
+  pub attempt : value (codes "attempt") ≡ Some (decimal unit.attempt)
+  pub in_range : IsUnitName unit
+
+-- the value is the size
+pub record NamesSize (value : Text → Option Text) (size : ℕ) : Type 0 where
+  pub size_is : value (codes "size") ≡ Some (decimal size)
+  pub in_range : IsSize size
+
+-- the values are those of this command
+abbrev pub HasValues : Verb → (Text → Option Text) → Command → Type 0
+HasValues verb.Continuity value (Continuity unit) = NamesUnit value unit
+HasValues verb.Learn value (Learn unit) = NamesUnit value unit
+HasValues verb.Run value Run = ⊤
+HasValues verb.Soak value (Soak size) = NamesSize value size
+HasValues verb value other = ⊥
