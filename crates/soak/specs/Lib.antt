@@ -1,0 +1,2 @@
+pub mod Soaked
+pub mod Between

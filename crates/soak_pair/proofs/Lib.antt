@@ -1,0 +1,2 @@
+pub mod SoakNets
+pub mod SoakUnits
