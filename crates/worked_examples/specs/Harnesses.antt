@@ -1,6 +1,6 @@
 -- The small harnesses of the examples.
-use Rattle.std.specs.Prelude.{ℕ, List, [], ◌∷◌, filter, not}
-use Rattle.partition.specs.Classes.{has, points_below, classes_by, class_at, joined_by}
+use Rattle.std.specs.Prelude.{ℕ, List, [], ◌∷◌}
+use Rattle.partition.specs.Classes.{classes_by, class_at, joined_by}
 use Rattle.partition.specs.NetTable.{NetTable, judged_points}
 use Rattle.difference.specs.declared.wiring.Piece.{Piece}
 use Rattle.difference.specs.declared.wiring.Short.{Short}

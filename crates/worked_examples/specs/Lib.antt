@@ -1,3 +1,4 @@
 pub mod Harnesses
 pub mod Units
 pub mod Programs
+pub mod Records

@@ -35,3 +35,17 @@ cable = record {
   withstand = Some (record { volts = 1500; ticks = 10; nanoamps = 2000 });
   attempts = 3;
 }
+
+-- with one component between the two nets
+abbrev pub with_diode : Program
+with_diode = record (small_program []) { diodes = record { name = codes "D1"; from = 0; to = 2; min = 500; max = 800 } ∷ [] }
+
+abbrev pub with_resistor : Program
+with_resistor = record (small_program []) { resistors = record { name = codes "R1"; a = 0; b = 2; min = 20000; max = 30000 } ∷ [] }
+
+-- with a test at high voltage
+abbrev pub with_insulation : Program
+with_insulation = record (small_program []) { insulation = Some (record { volts = 500; ticks = 1; megohms = 100 }) }
+
+abbrev pub with_withstand : ℕ → ℕ → Program
+with_withstand volts nanoamps = record (small_program []) { withstand = Some (record { volts = volts; ticks = 1; nanoamps = nanoamps }) }

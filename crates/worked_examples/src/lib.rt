@@ -4,5 +4,7 @@
 #![tactic(auto)]
 
 pub mod differences;
+pub mod outcomes;
 pub mod programs;
 pub mod readings;
+pub mod reports;
