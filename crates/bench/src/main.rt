@@ -1,12 +1,13 @@
 //! The program of the station.
 //!
-//! It calls [`bench_cli::bench`] over `harness.sim` and `wirelist.csv` of the current folder, standard output and the words
-//! that it was given, and ends with the status of that call.
+//! It calls [`bench_cli::bench`] over `harness.sim`, `wirelist.csv` and `station.journal` of the current folder, standard
+//! input and output, the system's clock and the words that it was given, and ends with the status of that call.
 #![tactic(auto)]
 
 use base::{Memory, Text};
 use bench_cli::Ended;
-use bench_edge::{FileIn, StdOut};
+use bench_edge::{FileIn, RealClock, StdIn, StdOut};
+use disk_edge::FileDisk;
 use std::process::ExitCode;
 use std::{env, io};
 
@@ -22,13 +23,23 @@ fn status(rt: &HostRuntime) -> Result<u8, Memory> {
     let words = words(rt)?;
     let mut harness = FileIn::new(rt, Text::from_text(rt.alloc(), "harness.sim")?);
     let mut wires = FileIn::new(rt, Text::from_text(rt.alloc(), "wirelist.csv")?);
+    let mut input = StdIn::new(rt);
     let mut out = StdOut::new(rt);
-    let Ended { status, rig: _rig } = bench_cli::bench(
+    let disk = FileDisk::new(rt, Text::from_text(rt.alloc(), "station.journal")?);
+    let mut clock = RealClock::new(rt);
+    let Ended {
+        status,
+        disk: _disk,
+        rig: _rig,
+    } = bench_cli::bench(
         rt.alloc(),
         words.as_slice(),
         &mut harness,
         &mut wires,
+        &mut input,
         &mut out,
+        disk,
+        &mut clock,
     );
     Ok(status)
 }

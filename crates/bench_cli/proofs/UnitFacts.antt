@@ -1,223 +1,111 @@
--- What a run promises of the unit, by the ways in which the work on it ends.
-use Rattle.std.proofs.Common.{◌≡◌, ◌⊎◌, inl, inr, ◌<◌, ◌++◌, ◌∷◌, [], ℕ, List, Option, None, Some, Ok, map, sym, ◌∙◌, ap, subst, arith}
-use Rattle.std.specs.Prelude.{zip, option_map}
-use Rattle.rig.specs.declared.event.Event.{Event}
+-- What a run on one unit promises, whatever is done with the unit.
+use Rattle.std.proofs.Common.{◌≡◌, ◌⊎◌, inl, inr, ◌∷◌, [], ℕ, List, Option, None, Some, Ok, refl, sym, ◌∙◌, ap, subst, arith}
+use Rattle.std.specs.Prelude.{Contains}
+use Rattle.rig.specs.declared.unit.Row.{Row}
 use Rattle.rig.specs.declared.rig.SeatAnswer.TheVariants.{Present}
-use Rattle.rig.specs.Seating.{Seats}
-use Rattle.base.specs.Causes.{Rose}
-use Rattle.wirelist.specs.declared.program.Program.{Program}
 use Rattle.rig.specs.RigState.{RigState}
+use Rattle.rig.specs.Seating.{Seats}
 use Rattle.rig.specs.Joins.{unit_rows}
 use Rattle.harness.specs.declared.row.HarnessRow.{HarnessRow}
-use Rattle.harness.specs.Units.{units_of}
-use Rattle.harness.specs.Harness.{IsHarness}
+use Rattle.harness.specs.declared.row.HarnessRow.TheVariants.{Fault}
+use Rattle.harness.specs.Units.{units_of, AreFaults}
 use Rattle.rig_sim.specs.SimRig.{SimState}
-use Rattle.continuity_check.specs.Compared.{Compared, Trial, reading_of, checked_text, compared_of}
-use Rattle.learned_program.specs.LearnedProgram.{learned_text}
-use Rattle.bench_cli.specs.Words.{IsContinuity, IsLearn, AsksContinuity, AsksLearn, IsCommand}
-use Rattle.bench_cli.specs.Closing.{Wrote, WroteSome, Closes, rig_fault_line, fixture_empty_line}
-use Rattle.bench_cli.specs.Run.{Run, IsUnread, TakesHarness, TakesWires}
-use Rattle.bench_cli.specs.Findings.{StopsAmong}
-use Rattle.bench_cli.specs.Promises.{TellsHarness, IsChecked, IsCutOff, HasLearned}
-use Rattle.bench_cli.proofs.SeatedLemmas.{Shows, shows, Teaches, teaches, is_seated, unseated_trail, seat_counts, readings_count, none_there}
-use Rattle.bench_cli.proofs.UnitWays.{UnitWay, at_done, at_cut, at_absent, at_fault}
-use Rattle.bench_cli.proofs.RunLemmas.{Way, harness_told, program_told, taken_points, not_both, Works, IsWork, works}
-use Rattle.bench_cli.proofs.RunLemmas.Works.{checks, learns}
+use Rattle.words.specs.declared.command.UnitName.{UnitName}
+use Rattle.bench_cli.specs.Run.{Run, TakesHarness}
+use Rattle.bench_cli.specs.Told.{FindsUnit, Undisturbed, Is}
+use Rattle.bench_cli.specs.UnitWork.{WorksOn, LacksUnit, CountsFault}
+use Rattle.bench_cli.proofs.FileWays.{harness_told, same_rows}
+use Rattle.bench_cli.proofs.RunWays.{IsOwn}
+use Rattle.bench_cli.proofs.SeatedLemmas.{is_seated, seat_holds, readings_hold, seat_counts, readings_count, none_there}
+use Rattle.bench_cli.proofs.UnitWays.{UnitWay, unit_way, at_absent, at_fault}
+use Rattle.bench_cli.proofs.UnitWays.UnitWay.{done, cut, absent, no_seat, no_reading, memory as unit_memory}
 
--- a whole check, in the words of the files
-is_checked : {run : Run} {serial : List ℕ} {attempt : ℕ} {sim final : SimState} {text : List ℕ} (takes : TakesHarness run.harness sim)
-    → IsContinuity run.words serial attempt → (p : Program) → TakesWires run.wires p → p.nets.points ≡ sim.state.points
-    → (shown : Shows takes.rows final.state serial attempt (compared_of (zip p.names p.nets.named)) text) → IsChecked run final shown.trials
-is_checked {run} {serial} {attempt} {sim} {final} {text} takes words p wires same shown = record {
-  rows = takes.rows;
-  elements = shown.elements;
-  serial = serial;
-  attempt = attempt;
-  p = p;
-  words = words;
-  harness = harness_told takes;
-  wires = program_told wires;
-  over = same ∙ taken_points takes;
-  unit = shown.unit;
-  answers = shown.answers;
-  trail = shown.trail;
-}
+pub own_0 : {status : ℕ} → status ≡ 0 → IsOwn status
+own_0 at = (λ e. omega arith, λ e. omega arith, λ e. omega arith, λ e. omega arith, λ e. omega arith, λ e. omega arith)
 
--- a check that was cut off, in the words of the files
-cut_off_at : {run : Run} {serial : List ℕ} {attempt : ℕ} {sim final : SimState} (takes : TakesHarness run.harness sim) → IsContinuity run.words serial attempt
-    → (p : Program) → TakesWires run.wires p → (middle : RigState) → Seats sim.state middle serial attempt (Ok Present)
-    → StopsAmong (compared_of (zip p.names p.nets.named)) middle final.state → (trials : List Trial) × IsCutOff run final trials
-cut_off_at {run} {serial} {attempt} {sim} {final} takes words p wires middle seats stops =
-    let unit = is_seated takes.rows sim takes.is_new middle serial attempt seats in
-    let trials = stops.compares.trials in (
-      trials,
+pub own_7 : {status : ℕ} → status ≡ 7 → IsOwn status
+own_7 at = (λ e. omega arith, λ e. omega arith, λ e. omega arith, λ e. omega arith, λ e. omega arith, λ e. omega arith)
+
+pub own_14 : {status : ℕ} → status ≡ 14 → IsOwn status
+own_14 at = (λ e. omega arith, λ e. omega arith, λ e. omega arith, λ e. omega arith, λ e. omega arith, λ e. omega arith)
+
+pub own_15 : {status : ℕ} → status ≡ 15 → IsOwn status
+own_15 at = (λ e. omega arith, λ e. omega arith, λ e. omega arith, λ e. omega arith, λ e. omega arith, λ e. omega arith)
+
+-- no call fails where no row says so
+no_failing : (rows : List HarnessRow) (failing : List ℕ) → AreFaults rows failing → ((k : ℕ) → Contains rows (Fault k) → ⊥) → failing ≡ []
+no_failing rows [] are none = refl
+no_failing rows (k ∷ failing) are none = absurd (none k ((are.listed k).0 (0, omega arith, refl)))
+
+module _ {Finds : RigState → RigState → List ℕ → Type 0} {Stops : RigState → RigState → Type 0} {unit : UnitName} {sim : SimState} (run : Run) (status : ℕ) (rig : Option SimState)
+    (takes : TakesHarness run.files.harness sim) (work : WorksOn Finds Stops unit sim run.sunk status rig) where
+  pub the_way : UnitWay Finds Stops sim.state work.final.state unit.serial unit.attempt run.sunk status
+  the_way = unit_way Finds Stops sim.state work.final.state unit.serial unit.attempt run.sunk status work.ends
+
+  pub lacks_unit : status ≡ 14 → LacksUnit unit run
+  lacks_unit at =
+      let absent = at_absent the_way at in
+      record { rows = takes.rows; harness = harness_told takes; none = none_there takes.rows sim takes.is_new work.final.state unit.serial unit.attempt absent.0; line = absent.1 }
+
+  pub counts_fault : status ≡ 15 → CountsFault run rig
+  counts_fault at =
+      let fault = at_fault the_way at in
       record {
-        serial = serial;
-        attempt = attempt;
-        p = p;
-        next = stops.next;
-        rest = stops.rest;
-        words = words;
-        wires = program_told wires;
-        front = stops.split ∙ ap (λ (l : List Compared). l ++ (stops.next ∷ stops.rest)) (sym stops.compares.of_these);
-        trail = stops.compares.trail ∙ ap (option_map (λ (events : List Event). events ++ map reading_of trials)) unit.trail;
-      },
-    )
+        sim = work.final;
+        handed = work.handed;
+        counted = elim fault.0 [
+          | inl seats ↦ seat_counts takes.rows sim takes.is_new work.final.state unit.serial unit.attempt seats
+          | inr reading ↦ readings_count takes.rows sim takes.is_new reading.0 work.final.state reading.2
+        ];
+        line = fault.1;
+      }
 
--- a unit that was learned, in the words of the file
-has_learned : {run : Run} {serial : List ℕ} {attempt : ℕ} {sim final : SimState} {text : List ℕ} (takes : TakesHarness run.harness sim)
-    → IsLearn run.words serial attempt → IsUnread run.wires → (taught : Teaches takes.rows final.state serial attempt text) → HasLearned run final taught.classes
-has_learned {run} {serial} {attempt} {sim} {final} {text} takes words unread taught = record {
-  rows = takes.rows;
-  elements = taught.elements;
-  serial = serial;
-  attempt = attempt;
-  words = words;
-  harness = harness_told takes;
-  wires = unread;
-  unit = taught.unit;
-  truth = taught.truth;
-  trail = taught.trail;
-  determined = taught.determined;
-  at_least = taught.at_least;
-  at_most = taught.at_most;
-}
+  -- ---- where the harness is told and in form
 
-none_of_0 : IsWork 0
-none_of_0 = (λ e. omega (arith, e), λ e. omega (arith, e), λ e. omega (arith, e), λ e. omega (arith, e), λ e. omega (arith, e), λ e. omega (arith, e))
+  module _ (rows : List HarnessRow) (found : Option (List Row)) (form : FindsUnit unit run.files rows found) where
+    rows_are : takes.rows ≡ rows
+    rows_are = same_rows takes form.harness.file rows form.harness.told form.harness.is_harness
 
-none_of_7 : IsWork 7
-none_of_7 = (λ e. omega (arith, e), λ e. omega (arith, e), λ e. omega (arith, e), λ e. omega (arith, e), λ e. omega (arith, e), λ e. omega (arith, e))
+    unit_is : unit_rows (units_of takes.rows) unit.serial unit.attempt ≡ found
+    unit_is = ap (λ (r : List HarnessRow). unit_rows (units_of r) unit.serial unit.attempt) rows_are ∙ form.unit_is
 
-none_of_14 : IsWork 14
-none_of_14 = (λ e. omega (arith, e), λ e. omega (arith, e), λ e. omega (arith, e), λ e. omega (arith, e), λ e. omega (arith, e), λ e. omega (arith, e))
+    failing_none : Undisturbed run rows rig → sim.calls.listed ≡ []
+    failing_none calm =
+        no_failing takes.rows sim.calls.listed takes.is_new.faults
+        (λ k there. calm.no_fault_row k (subst (λ (r : List HarnessRow). Contains r (Fault k)) rows_are there))
 
-none_of_15 : IsWork 15
-none_of_15 = (λ e. omega (arith, e), λ e. omega (arith, e), λ e. omega (arith, e), λ e. omega (arith, e), λ e. omega (arith, e), λ e. omega (arith, e))
+  module _ (rows : List HarnessRow) (form : FindsUnit unit run.files rows None) where
+    not_seated : {middle : RigState} → Seats sim.state middle unit.serial unit.attempt (Ok Present) → ⊥
+    not_seated {middle} seats =
+        let there = is_seated takes.rows sim takes.is_new middle unit.serial unit.attempt seats in
+        let both : Some there.elements ≡ None = sym there.unit ∙ unit_is rows None form in
+        cc
 
-module _ (run : Run) (status : ℕ) (rig : Option SimState) where
-  -- a check or a learning, and not the other
+    empty_by : UnitWay Finds Stops sim.state work.final.state unit.serial unit.attempt run.sunk status → Is 14 status ⊎ (status ≡ 15)
+    empty_by (done is middle text seats finds wrote) = absurd (not_seated seats)
+    empty_by (cut is middle text seats finds rose wrote) = absurd (not_seated seats)
+    empty_by (absent is seats line) = inl (inl is)
+    empty_by (no_seat is seats line) = inr is
+    empty_by (no_reading is middle seats reads stops line) = inr is
+    empty_by (unit_memory is quiet) = inl (inr is)
 
-  abbrev CheckedFact : Type 0
-  CheckedFact = (sim : SimState) × (trials : List Trial) × (rig ≡ Some sim) × IsChecked run sim trials × Wrote run.sunk (checked_text trials)
+    pub empty_ends : Is 14 status ⊎ (status ≡ 15)
+    empty_ends = empty_by the_way
 
-  checked_by : Works run status rig → status ≡ 0 → AsksContinuity run.words → CheckedFact
-  checked_by (checks {attempt} {serial} words sim final out takes p wires same ends) at asks =
-      let done = at_done ends at in
-      let shown = shows takes.rows sim takes.is_new done.0 serial attempt done.2 final.state (compared_of (zip p.names p.nets.named)) done.1 done.3 in
-      (final, shown.trials, out, is_checked takes words p wires same shown, subst (Wrote run.sunk) shown.text_is done.4)
-  checked_by (learns words sim final out takes unread ends) at asks = absurd (not_both run.words _ _ _ _ asks.2 words)
+  module _ (rows : List HarnessRow) (elements : List Row) (form : FindsUnit unit run.files rows (Some elements)) (calm : Undisturbed run rows rig) where
+    complete_by : UnitWay Finds Stops sim.state work.final.state unit.serial unit.attempt run.sunk status → Is 0 status
+    complete_by (done is middle text seats finds wrote) = inl is
+    complete_by (cut is middle text seats finds rose wrote) = absurd (calm.written rose)
+    complete_by (absent is seats line) =
+        let both : None ≡ Some elements = sym (none_there takes.rows sim takes.is_new work.final.state unit.serial unit.attempt seats) ∙ unit_is rows (Some elements) form in
+        cc
+    complete_by (no_seat is seats line) =
+        let room = calm.counts work.final work.handed in
+        absurd (seat_holds takes.rows sim takes.is_new work.final.state unit.serial unit.attempt (failing_none rows (Some elements) form calm) seats room.0 room.1)
+    complete_by (no_reading is middle seats reads stops line) =
+        let room = calm.counts work.final work.handed in
+        absurd (readings_hold takes.rows sim takes.is_new middle work.final.state unit.serial unit.attempt (failing_none rows (Some elements) form calm) seats reads room.0 room.1)
+    complete_by (unit_memory is quiet) = inr is
 
-  abbrev LearnedFact : Type 0
-  LearnedFact = (sim : SimState) × (classes : List ℕ) × (rig ≡ Some sim) × HasLearned run sim classes × Wrote run.sunk (learned_text classes)
-
-  learned_by : Works run status rig → status ≡ 0 → AsksLearn run.words → LearnedFact
-  learned_by (checks words sim final out takes p wires same ends) at asks = absurd (not_both run.words _ _ _ _ words asks.2)
-  learned_by (learns {attempt} {serial} words sim final out takes unread ends) at asks =
-      let done = at_done ends at in
-      let taught = teaches takes.rows sim takes.is_new done.0 serial attempt done.2 final.state done.1 done.3 in
-      (final, taught.classes, out, has_learned takes words unread taught, subst (Wrote run.sunk) taught.text_is done.4)
-
-  abbrev CutFact : Type 0
-  CutFact = (sim : SimState) × (trials : List Trial) × (rig ≡ Some sim) × IsChecked run sim trials × Rose run.sunk.faults run.sunk.faults_after × WroteSome run.sunk (checked_text trials)
-
-  cut_by : Works run status rig → status ≡ 7 → AsksContinuity run.words → CutFact
-  cut_by (checks {attempt} {serial} words sim final out takes p wires same ends) at asks =
-      let cut = at_cut ends at in
-      let shown = shows takes.rows sim takes.is_new cut.0 serial attempt cut.2 final.state (compared_of (zip p.names p.nets.named)) cut.1 cut.3 in
-      (final, shown.trials, out, is_checked takes words p wires same shown, cut.4, subst (WroteSome run.sunk) shown.text_is cut.5)
-  cut_by (learns words sim final out takes unread ends) at asks = absurd (not_both run.words _ _ _ _ asks.2 words)
-
-  abbrev LearnCutFact : Type 0
-  LearnCutFact = (sim : SimState) × (classes : List ℕ) × (rig ≡ Some sim) × HasLearned run sim classes × Rose run.sunk.faults run.sunk.faults_after × WroteSome run.sunk (learned_text classes)
-
-  learn_cut_by : Works run status rig → status ≡ 7 → AsksLearn run.words → LearnCutFact
-  learn_cut_by (checks words sim final out takes p wires same ends) at asks = absurd (not_both run.words _ _ _ _ words asks.2)
-  learn_cut_by (learns {attempt} {serial} words sim final out takes unread ends) at asks =
-      let cut = at_cut ends at in
-      let taught = teaches takes.rows sim takes.is_new cut.0 serial attempt cut.2 final.state cut.1 cut.3 in
-      (final, taught.classes, out, has_learned takes words unread taught, cut.4, subst (WroteSome run.sunk) taught.text_is cut.5)
-
-  commanded_by : Works run status rig → IsCommand run.words
-  commanded_by (checks {attempt} {serial} words sim final out takes p wires same ends) = inl (serial, attempt, words)
-  commanded_by (learns {attempt} {serial} words sim final out takes unread ends) = inr (serial, attempt, words)
-
-  -- either of them
-
-  abbrev EmptyFact : Type 0
-  EmptyFact =
-      (rows : List HarnessRow) × (serial : List ℕ) × (attempt : ℕ) × (IsContinuity run.words serial attempt ⊎ IsLearn run.words serial attempt) × ((file : List ℕ) → TellsHarness run file → IsHarness file rows)
-      × (unit_rows (units_of rows) serial attempt ≡ None) × Closes run.sunk fixture_empty_line
-
-  empty_by : Works run status rig → status ≡ 14 → EmptyFact
-  empty_by (checks {attempt} {serial} words sim final out takes p wires same ends) at =
-      let absent = at_absent ends at in
-      (takes.rows, serial, attempt, inl words, harness_told takes, none_there takes.rows sim takes.is_new final.state serial attempt absent.0, absent.1)
-  empty_by (learns {attempt} {serial} words sim final out takes unread ends) at =
-      let absent = at_absent ends at in
-      (takes.rows, serial, attempt, inr words, harness_told takes, none_there takes.rows sim takes.is_new final.state serial attempt absent.0, absent.1)
-
-  abbrev FaultFact : Type 0
-  FaultFact = (sim : SimState) × (rig ≡ Some sim) × (0 < sim.state.faults) × Closes run.sunk rig_fault_line
-
-  fault_in : {Finds : RigState → RigState → List ℕ → Type 0} {Stops : RigState → RigState → Type 0} {serial : List ℕ} {attempt : ℕ} (sim final : SimState) → rig ≡ Some final → TakesHarness run.harness sim
-      → UnitWay Finds Stops sim.state final.state serial attempt run.sunk status → status ≡ 15 → FaultFact
-  fault_in {Finds} {Stops} {serial} {attempt} sim final out takes ends at =
-      let fault = at_fault ends at in (
-        final,
-        out,
-        elim fault.0 [
-          | inl seats ↦ seat_counts takes.rows sim takes.is_new final.state serial attempt seats
-          | inr reading ↦ readings_count takes.rows sim takes.is_new reading.0 final.state reading.2
-        ],
-        fault.1,
-      )
-
-  fault_by : Works run status rig → status ≡ 15 → FaultFact
-  fault_by (checks words sim final out takes p wires same ends) at = fault_in sim final out takes ends at
-  fault_by (learns words sim final out takes unread ends) at = fault_in sim final out takes ends at
-
-  abbrev CutOffFact : Type 0
-  CutOffFact = (sim : SimState) × (rig ≡ Some sim) × ((sim.state.trail ≡ Some []) ⊎ ((trials : List Trial) × IsCutOff run sim trials))
-
-  cut_off_by : Works run status rig → status ≡ 15 → AsksContinuity run.words → CutOffFact
-  cut_off_by (checks {attempt} {serial} words sim final out takes p wires same ends) at asks =
-      let fault = at_fault ends at in (
-        final,
-        out,
-        elim fault.0 [
-          | inl seats ↦ inl (unseated_trail takes.rows sim takes.is_new final.state serial attempt seats)
-          | inr reading ↦ inr (cut_off_at takes words p wires reading.0 reading.1 reading.3)
-        ],
-      )
-  cut_off_by (learns words sim final out takes unread ends) at asks = absurd (not_both run.words _ _ _ _ asks.2 words)
-
-  -- by all ways of a run
-
-  works_at : (own : ℕ) → IsWork own → Way run status rig → status ≡ own → Works run status rig
-  works_at own other way at = works way (subst IsWork (sym at) other)
-
-  pub checked_fact : Way run status rig → status ≡ 0 → AsksContinuity run.words → CheckedFact
-  checked_fact way at = checked_by (works_at 0 none_of_0 way at) at
-
-  pub learned_fact : Way run status rig → status ≡ 0 → AsksLearn run.words → LearnedFact
-  learned_fact way at = learned_by (works_at 0 none_of_0 way at) at
-
-  pub write_fault_fact : Way run status rig → status ≡ 7 → AsksContinuity run.words → CutFact
-  write_fault_fact way at = cut_by (works_at 7 none_of_7 way at) at
-
-  pub learn_write_fault_fact : Way run status rig → status ≡ 7 → AsksLearn run.words → LearnCutFact
-  learn_write_fault_fact way at = learn_cut_by (works_at 7 none_of_7 way at) at
-
-  pub commanded_fact : Way run status rig → (status ≡ 0) ⊎ (status ≡ 7) → IsCommand run.words
-  commanded_fact way (inl at) = commanded_by (works_at 0 none_of_0 way at)
-  commanded_fact way (inr at) = commanded_by (works_at 7 none_of_7 way at)
-
-  pub fixture_empty_fact : Way run status rig → status ≡ 14 → EmptyFact
-  fixture_empty_fact way at = empty_by (works_at 14 none_of_14 way at) at
-
-  pub rig_fault_fact : Way run status rig → status ≡ 15 → FaultFact
-  rig_fault_fact way at = fault_by (works_at 15 none_of_15 way at) at
-
-  pub check_fault_fact : Way run status rig → status ≡ 15 → AsksContinuity run.words → CutOffFact
-  check_fault_fact way at = cut_off_by (works_at 15 none_of_15 way at) at
+    pub complete_ends : Is 0 status
+    complete_ends = complete_by the_way

@@ -1,8 +1,16 @@
-pub mod Words
+pub mod Commands
 pub mod Closing
 pub mod UnitEnds
 pub mod Findings
 pub mod Wires
 pub mod Run
 pub mod Files
+pub mod Told
+pub mod UnitWork
+pub mod Checking
+pub mod Learning
+pub mod Scripting
+pub mod Soaking
+pub mod Works
+pub mod Ends
 pub mod Promises

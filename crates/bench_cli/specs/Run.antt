@@ -1,9 +1,12 @@
--- What a run is given, and what its sources and its sink are after it.
+-- What a run is given, and what its sources, its sink, its disk and its clock are after it.
 --     read_by left faults s t    what a source s that became t had left and how often it had failed, by its two meanings
---     Ends run status rig        the ways in which a run ends, each with its cause, its status and its closing line
-use Rattle.std.specs.Prelude.{◌≡◌, ◌≢◌, ◌++◌, [], ℕ, List, Option, None, Some, codes, decimal, zip, unwrap_or}
+--     Run                        the words, what was read and written, and the disk and the clock, where they tell, before and after
+--     TakesFiles files given     the files that a command reads are in form, and give this
+--     StopsAtFiles               the ways in which a run ends where one of them gives nothing
+use Rattle.std.specs.Prelude.{◌≡◌, ◌≢◌, ◌++◌, [], ℕ, Bool, true, false, List, Option, None, Some, codes, decimal, unwrap_or}
 use Rattle.base.specs.Causes.{Rose}
 use Rattle.bench_edge.specs.Whole.{TookFirst, LostFront}
+use Rattle.disk_edge.specs.Disk.{DiskState}
 use Rattle.harness.specs.declared.row.HarnessRow.{HarnessRow}
 use Rattle.harness.specs.declared.refusal.HarnessRefusal.{HarnessRefusal}
 use Rattle.harness.specs.Refusals.{number_of, line_of}
@@ -11,12 +14,8 @@ use Rattle.harness.specs.Harness.{IsHarness, IsRefused}
 use Rattle.rig_sim.specs.SimRig.{SimState, IsNew}
 use Rattle.wirelist.specs.declared.program.Program.{Program}
 use Rattle.wirelist.specs.declared.refusal.WireRefusal.{WireRefusal}
-use Rattle.continuity_check.specs.Compared.{compared_of}
-use Rattle.bench_cli.specs.Words.{IsContinuity, IsLearn, AsksContinuity, IsCommand}
-use Rattle.bench_cli.specs.Closing.{Sunk, IsUnasked, ClosesWith, usage_line, read_fault_line}
-use Rattle.bench_cli.specs.UnitEnds.{UnitEnds}
+use Rattle.bench_cli.specs.Closing.{Sunk, IsUnasked, ClosesWith, read_fault_line}
 use Rattle.bench_cli.specs.Wires.{IsWirelist, first_refusal, wires_refusal_line, points_differ_line}
-use Rattle.bench_cli.specs.Findings.{ComparesAll, StopsAmong, LearnsAll, StopsLearning}
 
 -- the bytes that a source has left and its count of failed reads, before and after
 pub record Read : Type 0 where
@@ -28,11 +27,20 @@ pub record Read : Type 0 where
 abbrev pub read_by : {S : Type 0} → (S → Option (List ℕ)) → (S → ℕ) → S → S → Read
 read_by left faults old new = record { left = left old; left_after = left new; faults = faults old; faults_after = faults new }
 
-pub record Run : Type 0 where
-  pub words : List (List ℕ)
+-- the two files
+pub record Files : Type 0 where
   pub harness : Read
   pub wires : Read
+
+pub record Run : Type 0 where
+  pub words : List (List ℕ)
+  pub files : Files
+  pub input : Read
   pub sunk : Sunk
+  pub disk : DiskState
+  pub disk_after : DiskState
+  pub moments : Option (List ℕ)
+  pub moments_after : Option (List ℕ)
 
 -- how many bytes of each file are read at most: one more than it may have
 abbrev pub most_of_harness : ℕ
@@ -85,33 +93,54 @@ pub record IsUnread (read : Read) : Type 0 where
   pub left : read.left_after ≡ read.left
   pub faults : read.faults_after ≡ read.faults
 
--- In each of these ways the status may be 9 in place of its own, where memory ran out.
-pub data Ends (run : Run) : ℕ → Option SimState → Type 0 where
-  -- neither file was read
-  no_command : {status : ℕ} → (IsCommand run.words → ⊥) → IsUnread run.harness → IsUnread run.wires
-      → ClosesWith run.sunk usage_line 2 status → Ends run status None
+-- what a command does not use is left as it was
+pub record LeavesUnused (reads_input uses_disk uses_clock : Bool) (run : Run) : Type 0 where
+  pub input : reads_input ≡ false → IsUnread run.input
+  pub disk : uses_disk ≡ false → run.disk_after ≡ run.disk
+  pub clock : uses_clock ≡ false → run.moments_after ≡ run.moments
+
+-- what the files that a command reads give: nothing where it reads none, the simulator of a harness, or that and a program
+pub data Given : Type 0 where
+  nothing : Given
+  simulator : SimState → Given
+  both : SimState → Program → Given
+
+-- the two are of as many points
+pub record TakesBoth (files : Files) (sim : SimState) (p : Program) : Type 0 where
+  pub harness : TakesHarness files.harness sim
+  pub wires : TakesWires files.wires p
+  pub same : p.nets.points ≡ sim.state.points
+
+abbrev pub TakesFiles : Files → Given → Type 0
+TakesFiles files nothing = IsUnread files.harness × IsUnread files.wires
+TakesFiles files (simulator sim) = TakesHarness files.harness sim × IsUnread files.wires
+TakesFiles files (both sim p) = TakesBoth files sim p
+
+-- A file gave nothing. In each of these ways the status may be 9 in place of its own, where memory ran out. What is handed out is the
+-- simulator, where the harness file gave one.
+pub data StopsAtFiles (wired : Bool) (files : Files) (sunk : Sunk) : ℕ → Option SimState → Type 0 where
   -- the harness file gave no simulator, and the wirelist was not read
-  harness_fault : {status : ℕ} → IsCommand run.words → FailsToRead run.harness most_of_harness → IsUnread run.wires
-      → ClosesWith run.sunk read_fault_line 6 status → Ends run status None
-  harness_refused : {status : ℕ} → IsCommand run.words → (refusal : HarnessRefusal) → RefusesHarness run.harness refusal → IsUnread run.wires
-      → ClosesWith run.sunk (refusal_line refusal) 3 status → Ends run status None
-  harness_memory : IsCommand run.words → LostFront run.harness.left run.harness.left_after most_of_harness → IsUnread run.wires
-      → IsUnasked run.sunk → Ends run 9 None
-  -- the check of continuity reads the wirelist
-  wires_fault : {status : ℕ} → AsksContinuity run.words → (sim : SimState) → TakesHarness run.harness sim → FailsToRead run.wires most_of_wires
-      → ClosesWith run.sunk read_fault_line 6 status → Ends run status (Some sim)
-  wires_refused : {status : ℕ} → AsksContinuity run.words → (sim : SimState) → TakesHarness run.harness sim
-      → (refusal : WireRefusal) → RefusesWires run.wires refusal → ClosesWith run.sunk (wires_refusal_line refusal) 4 status → Ends run status (Some sim)
-  wires_memory : AsksContinuity run.words → (sim : SimState) → TakesHarness run.harness sim → LostFront run.wires.left run.wires.left_after most_of_wires
-      → IsUnasked run.sunk → Ends run 9 (Some sim)
-  -- both files were read, and are of other numbers of points
-  points_differ : {status : ℕ} → AsksContinuity run.words → (sim : SimState) → TakesHarness run.harness sim → (p : Program) → TakesWires run.wires p
-      → p.nets.points ≢ sim.state.points → ClosesWith run.sunk (points_differ_line sim.state.points p.nets.points) 13 status → Ends run status (Some sim)
-  -- both files were read, and the unit was looked for
-  checked : {status attempt : ℕ} {serial : List ℕ} → IsContinuity run.words serial attempt → (sim final : SimState) → TakesHarness run.harness sim
-      → (p : Program) → TakesWires run.wires p → p.nets.points ≡ sim.state.points
-      → UnitEnds (ComparesAll (compared_of (zip p.names p.nets.named))) (StopsAmong (compared_of (zip p.names p.nets.named)))
-      sim.state final.state serial attempt run.sunk status → Ends run status (Some final)
-  -- learning leaves the wirelist alone
-  learned : {status attempt : ℕ} {serial : List ℕ} → IsLearn run.words serial attempt → (sim final : SimState) → TakesHarness run.harness sim
-      → IsUnread run.wires → UnitEnds LearnsAll StopsLearning sim.state final.state serial attempt run.sunk status → Ends run status (Some final)
+  harness_fault : {status : ℕ} → FailsToRead files.harness most_of_harness → IsUnread files.wires
+      → ClosesWith sunk read_fault_line 6 status → StopsAtFiles wired files sunk status None
+  harness_refused : {status : ℕ} → (refusal : HarnessRefusal) → RefusesHarness files.harness refusal → IsUnread files.wires
+      → ClosesWith sunk (refusal_line refusal) 3 status → StopsAtFiles wired files sunk status None
+  harness_memory : LostFront files.harness.left files.harness.left_after most_of_harness → IsUnread files.wires
+      → IsUnasked sunk → StopsAtFiles wired files sunk 9 None
+  -- the wirelist gave no program
+  wires_fault : {status : ℕ} → wired ≡ true → (sim : SimState) → TakesHarness files.harness sim → FailsToRead files.wires most_of_wires
+      → ClosesWith sunk read_fault_line 6 status → StopsAtFiles wired files sunk status (Some sim)
+  wires_refused : {status : ℕ} → wired ≡ true → (sim : SimState) → TakesHarness files.harness sim
+      → (refusal : WireRefusal) → RefusesWires files.wires refusal → ClosesWith sunk (wires_refusal_line refusal) 4 status
+      → StopsAtFiles wired files sunk status (Some sim)
+  wires_memory : wired ≡ true → (sim : SimState) → TakesHarness files.harness sim
+      → LostFront files.wires.left files.wires.left_after most_of_wires → IsUnasked sunk → StopsAtFiles wired files sunk 9 (Some sim)
+  -- both are in form, and are of other numbers of points
+  points_differ : {status : ℕ} → wired ≡ true → (sim : SimState) → TakesHarness files.harness sim → (p : Program) → TakesWires files.wires p
+      → p.nets.points ≢ sim.state.points → ClosesWith sunk (points_differ_line sim.state.points p.nets.points) 13 status
+      → StopsAtFiles wired files sunk status (Some sim)
+
+-- a command comes to an end: at its files, or by its own work on what they give
+pub data Comes (wired : Bool) (files : Files) (sunk : Sunk) (Works : Given → Sunk → ℕ → Option SimState → Type 0) (status : ℕ)
+    (rig : Option SimState) : Type 0 where
+  at_files : StopsAtFiles wired files sunk status rig → Comes wired files sunk Works status rig
+  by_work : (given : Given) → TakesFiles files given → Works given sunk status rig → Comes wired files sunk Works status rig

@@ -1,19 +1,54 @@
 //! The check of a unit's continuity, from the seat to the text.
 
-ghost use Rattle.std.specs.Prelude.{◌≡◌, length, zip};
+ghost use Rattle.std.specs.Prelude.{◌≡◌, true, length, zip};
 ghost use Rattle.continuity_check.specs.Compared.{compared_of};
 ghost use Rattle.bench_cli.specs.Closing.{sunk_by};
 ghost use Rattle.bench_cli.specs.Findings.{ComparesAll, StopsAmong};
+ghost use Rattle.bench_cli.specs.Checking.{ChecksUnit};
+ghost use Rattle.bench_cli.specs.Run.{read_by, Comes};
 ghost use Rattle.bench_cli.specs.UnitEnds.{UnitEnds, SeatedEnds};
 
 use crate::closing::{end_with_line, status, write_text};
+use crate::taking::{Both, Outcome, take_both};
 use crate::unit::{UnitEnded, end_unseated};
-use crate::words::UnitName;
-use bench_edge::Sink;
+use bench_edge::{Sink, Source};
 use continuity_check::check_nets;
 use partition::{Name, Nets};
 use rig::{Rig, RigStop, Seated};
 use std::alloc::Global;
+use words::UnitName;
+
+/// Reads both files and checks the unit.
+pub fn continuity<H: Source, W: Source, O: Sink>(
+    alloc: Global,
+    unit: &UnitName,
+    harness: &mut H,
+    wires: &mut W,
+    out: &mut O,
+) -> Outcome
+    ensures { Comes true (record {
+      harness = read_by H.left H.read_faults harness.old harness.new;
+      wires = read_by W.left W.read_faults wires.old wires.new;
+    }) (sunk_by O.got O.write_faults out.old out.new) (ChecksUnit unit.now) result.status result.rig }
+{
+    match take_both(alloc, harness, wires, out) {
+        Ok(Both { sim, p }) => {
+            let UnitEnded { status, rig } = check_unit(
+                alloc,
+                sim,
+                unit,
+                p.names.as_slice(),
+                &p.nets,
+                out,
+            );
+            Outcome {
+                status,
+                rig: Some(rig),
+            }
+        }
+        Err(outcome) => outcome,
+    }
+}
 
 /// Seats the unit, makes all readings, and writes what they found.
 pub fn check_unit<R: Rig, O: Sink>(

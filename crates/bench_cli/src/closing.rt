@@ -23,6 +23,8 @@ pub mod status {
 
     pub const NO_MEMORY: u8 = 9;
 
+    pub const NOT_AT_ZERO: u8 = 10;
+
     pub const POINTS_DIFFER: u8 = 13;
 
     pub const FIXTURE_EMPTY: u8 = 14;

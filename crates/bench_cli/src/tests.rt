@@ -2,7 +2,8 @@
 
 use crate::{Ended, bench};
 use base::{Bytes, Counts};
-use bench_edge::{MemSink, MemSource};
+use bench_edge::{MemClock, MemSink, MemSource};
+use disk_edge::MemDisk;
 use std::process::Abort;
 use std::test::Fail;
 
@@ -54,13 +55,27 @@ fn ran(
     let words = words_of(rt, line)?;
     let mut harness = source_of(rt, harness, failing.harness)?;
     let mut wires = source_of(rt, wires, failing.wires)?;
+    let mut input = source_of(rt, b"", 1)?;
     let mut out = MemSink::new(rt.alloc(), Counts::from_slice(rt.alloc(), &[failing.sink])?);
-    let Ended { status, rig: _rig } = bench(
+    let disk = MemDisk::new(
+        rt.alloc(),
+        Bytes::new(rt.alloc()),
+        Counts::from_slice(rt.alloc(), &[1])?,
+    )?;
+    let mut clock = MemClock::new(Counts::from_slice(rt.alloc(), &[])?);
+    let Ended {
+        status,
+        disk: _disk,
+        rig: _rig,
+    } = bench(
         rt.alloc(),
         words.as_slice(),
         &mut harness,
         &mut wires,
+        &mut input,
         &mut out,
+        disk,
+        &mut clock,
     );
     Ok((status, Bytes::from_slice(rt.alloc(), out.bytes())?))
 }
@@ -87,7 +102,14 @@ const LATER: &str = "continuity --serial SN1 --attempt 2";
 const SECOND: &str =
     "points 5\nunit SN1 1\nwire 0 1\nwire 2 3\nresistor 0 2 20000\ndiode 1 3 600\nend\n";
 
-const CHECKS: [Run; 14] = [
+const CHECKS: [Run; 15] = [
+    (
+        "--serial=SN1 continuity --attempt 1",
+        HARNESS,
+        WIRES,
+        0,
+        "PASS\n",
+    ),
     (UNIT, HARNESS, WIRES, 0, "PASS\n"),
     (UNIT, ONE_WIRE, WIRES, 0, "open B 3\nFAIL 1\n"),
     (UNIT, NO_WIRE, WIRES, 0, "open A 1\nopen B 3\nFAIL 2\n"),
@@ -222,8 +244,8 @@ fn other_words_are_no_command(rt: HostRuntime) -> Result<(), Fail> {
         "continuity --serial -a --attempt 1",
         "learn --serial -a --attempt 1",
         "continuity --serial SN1 --attempt 1 1",
-        "continuity --attempt 1 --serial SN1",
-        "learn --attempt 1 --serial SN1",
+        "continuity --serial SN1 --serial SN1 --attempt 1",
+        "--help",
     ] {
         let (ended, wrote) = ran(&rt, line, OFF.as_bytes(), WIRES.as_bytes(), NONE)?;
         assert_eq!(rt; ended, 2, "{line}");

@@ -1,6 +1,6 @@
--- The ways in which a run ends, from its parts.
-use Rattle.std.proofs.Common.{◌≡◌, ◌⊎◌, inl, inr, refl, slice_get, ℕ, List, [], Option, None, Some, Err, sym, ◌∙◌, ap, subst}
-use Rattle.std.specs.Prelude.{zip, codes, decimal, unwrap_or, ◌++◌}
+-- What reading the files of a command comes to, from its parts.
+use Rattle.std.proofs.Common.{◌≡◌, ◌⊎◌, inl, inr, refl, slice_get, ℕ, Bool, true, List, [], Option, None, Some, Result, Ok, Err, sym, ◌∙◌, ap, subst}
+use Rattle.std.specs.Prelude.{codes, decimal, unwrap_or, ◌++◌, IfOk}
 use Rattle.harness.specs.Refusals.{number_of, line_of}
 use Rattle.wirelist.specs.declared.program.Program.{Program}
 use Rattle.wirelist.specs.declared.refusal.WireRefusal.{WireRefusal}
@@ -8,30 +8,19 @@ use Rattle.harness.specs.declared.refusal.HarnessRefusal.{HarnessRefusal}
 use Rattle.harness.specs.declared.refusal.HarnessRefusal.TheVariants as harness
 use Rattle.harness.specs.Harness.{IsRefused}
 use Rattle.rig_sim.specs.SimRig.{SimState}
-use Rattle.continuity_check.specs.Compared.{compared_of}
-use Rattle.bench_cli.specs.declared.files.FileStop.{FileStop}
-use Rattle.bench_cli.specs.declared.files.FileStop.TheVariants.{Fault, Refused, Memory}
-use Rattle.bench_cli.specs.declared.words.Command.{Command}
-use Rattle.bench_cli.specs.declared.words.Command.TheVariants.{Continuity, Learn}
-use Rattle.bench_cli.specs.Words.{IsContinuity, AsksContinuity, IsCommand, Asks}
-use Rattle.bench_cli.specs.Closing.{Sunk, ClosesWith}
-use Rattle.bench_cli.specs.UnitEnds.{UnitEnds}
-use Rattle.bench_cli.specs.Findings.{ComparesAll, StopsAmong}
 use Rattle.bench_edge.specs.Whole.{TookFirst}
 use Rattle.bench_edge.proofs.Calls.{TookFirst-lost}
 use Rattle.wirelist.specs.declared.refusal.WireRefusal.TheVariants as wire
 use Rattle.wirelist_rows.specs.Filled.{rows_in}
 use Rattle.wirelist_reader.specs.Refusals.{refusals}
 use Rattle.wirelist_reader.specs.Rows.{program_of}
+use Rattle.bench_cli.specs.declared.files.FileStop.{FileStop}
+use Rattle.bench_cli.specs.declared.files.FileStop.TheVariants.{Fault, Refused, Memory}
+use Rattle.bench_cli.specs.Closing.{Sunk, ClosesWith}
 use Rattle.bench_cli.specs.Files.{HarnessIs, HarnessCloses, WiresAre, WiresClose, StopCloses, harness_stop_of, wires_stop_of}
-use Rattle.bench_cli.specs.Run.{Read, Run, IsUnread, TakesHarness, TakesWires, Ends, most_of_harness, most_of_wires, refusal_line, line_words}
-use Rattle.bench_cli.specs.Wires.{wires_refusal_line, points_differ_line}
-use Rattle.bench_cli.specs.Run.Ends.{harness_fault, harness_refused, harness_memory, wires_fault, wires_refused, wires_memory, points_differ, checked}
-
--- the words of a command are a command
-pub asked_command : (words : List (List ℕ)) (command : Command) → Asks words command → IsCommand words
-asked_command words (Continuity unit) is = inl (unit.serial, unit.attempt, is)
-asked_command words (Learn unit) is = inr (unit.serial, unit.attempt, is)
+use Rattle.bench_cli.specs.Run.{Read, Files, IsUnread, TakesHarness, TakesWires, TakesBoth, StopsAtFiles, most_of_harness, most_of_wires, refusal_line, line_words}
+use Rattle.bench_cli.specs.Run.StopsAtFiles.{harness_fault, harness_refused, harness_memory, wires_fault, wires_refused, wires_memory, points_differ}
+use Rattle.bench_cli.specs.Wires.{points_differ_line}
 
 -- the line of a refusal
 pub refused_closes : {E : Type 0} (line_of_refusal : E → List ℕ) (own : ℕ) (sunk : Sunk) (stop : FileStop E) (refusal : E) (line : List ℕ) (status : ℕ)
@@ -39,30 +28,33 @@ pub refused_closes : {E : Type 0} (line_of_refusal : E → List ℕ) (own : ℕ)
 refused_closes {E} line_of_refusal own sunk stop refusal line status is text closes =
     subst (λ (s : FileStop E). StopCloses line_of_refusal own sunk s status) (sym is) (subst (λ (l : List ℕ). ClosesWith sunk l own status) text closes)
 
-module _ (run : Run) (status : ℕ) where
-  pub harness_ends : (stop : FileStop HarnessRefusal) → IsCommand run.words → IsUnread run.wires → HarnessIs run.harness (Err stop)
-      → HarnessCloses run.sunk stop status → Ends run status None
-  harness_ends Fault command alone fails closes = harness_fault command fails alone closes
-  harness_ends (Refused refusal) command alone refuses closes = harness_refused command refusal refuses alone closes
-  harness_ends Memory command alone front closes = subst (λ (n : ℕ). Ends run n None) (sym closes.0) (harness_memory command front alone closes.1)
+module _ (wired : Bool) (files : Files) (sunk : Sunk) (status : ℕ) where
+  abbrev Stops : Option SimState → Type 0
+  Stops rig = StopsAtFiles wired files sunk status rig
 
-  pub wires_end : (sim : SimState) (stop : FileStop WireRefusal) → AsksContinuity run.words → TakesHarness run.harness sim → WiresAre run.wires (Err stop)
-      → WiresClose run.sunk stop status → Ends run status (Some sim)
-  wires_end sim Fault command takes fails closes = wires_fault command sim takes fails closes
-  wires_end sim (Refused refusal) command takes refuses closes = wires_refused command sim takes refusal refuses closes
-  wires_end sim Memory command takes front closes = subst (λ (n : ℕ). Ends run n (Some sim)) (sym closes.0) (wires_memory command sim takes front closes.1)
+  pub harness_stops : (stop : FileStop HarnessRefusal) → IsUnread files.wires → HarnessIs files.harness (Err stop) → HarnessCloses sunk stop status → Stops None
+  harness_stops Fault alone fails closes = harness_fault fails alone closes
+  harness_stops (Refused refusal) alone refuses closes = harness_refused refusal refuses alone closes
+  harness_stops Memory alone front closes = subst (λ (n : ℕ). StopsAtFiles wired files sunk n None) (sym closes.0) (harness_memory front alone closes.1)
 
-  pub difference_ends : (sim : SimState) (points wanted : ℕ) (p : Program) → points ≡ sim.state.points → wanted ≡ p.nets.points → (wanted ≡ points → ⊥) → AsksContinuity run.words → TakesHarness run.harness sim → TakesWires run.wires p
-      → ClosesWith run.sunk (points_differ_line points wanted) 13 status → Ends run status (Some sim)
-  difference_ends sim points wanted p at_points at_wanted other asks takes read closes =
-      points_differ asks sim takes p read (λ same. other (at_wanted ∙ same ∙ sym at_points))
-      (subst (λ (n : ℕ). ClosesWith run.sunk (points_differ_line sim.state.points n) 13 status) at_wanted (subst (λ (n : ℕ). ClosesWith run.sunk (points_differ_line n wanted) 13 status) at_points closes))
+  pub wires_stop : wired ≡ true → (sim : SimState) (stop : FileStop WireRefusal) → TakesHarness files.harness sim → WiresAre files.wires (Err stop) → WiresClose sunk stop status → Stops (Some sim)
+  wires_stop asked sim Fault takes fails closes = wires_fault asked sim takes fails closes
+  wires_stop asked sim (Refused refusal) takes refuses closes = wires_refused asked sim takes refusal refuses closes
+  wires_stop asked sim Memory takes front closes = subst (λ (n : ℕ). StopsAtFiles wired files sunk n (Some sim)) (sym closes.0) (wires_memory asked sim takes front closes.1)
 
-  pub unit_ends : (sim final : SimState) (points wanted attempt : ℕ) (serial : List ℕ) (listed : List (List ℕ)) (p : Program) → points ≡ sim.state.points → wanted ≡ p.nets.points → wanted ≡ points → IsContinuity run.words serial attempt
-      → TakesHarness run.harness sim → TakesWires run.wires p → listed ≡ p.names → UnitEnds (ComparesAll (compared_of (zip listed p.nets.named))) (StopsAmong (compared_of (zip listed p.nets.named))) sim.state final.state serial attempt run.sunk status → Ends run status (Some final)
-  unit_ends sim final points wanted attempt serial listed p at_points at_wanted same words takes read is ends =
-      checked words sim final takes p read (sym at_wanted ∙ same ∙ at_points)
-      (subst (λ (l : List (List ℕ)). UnitEnds (ComparesAll (compared_of (zip l p.nets.named))) (StopsAmong (compared_of (zip l p.nets.named))) sim.state final.state serial attempt run.sunk status) is ends)
+  pub difference_stops : wired ≡ true → (sim : SimState) (points wanted : ℕ) (p : Program) → points ≡ sim.state.points → wanted ≡ p.nets.points → (wanted ≡ points → ⊥) → TakesHarness files.harness sim → TakesWires files.wires p
+      → ClosesWith sunk (points_differ_line points wanted) 13 status → Stops (Some sim)
+  difference_stops asked sim points wanted p at_points at_wanted other takes read closes =
+      points_differ asked sim takes p read (λ same. other (at_wanted ∙ same ∙ sym at_points))
+      (subst (λ (n : ℕ). ClosesWith sunk (points_differ_line sim.state.points n) 13 status) at_wanted (subst (λ (n : ℕ). ClosesWith sunk (points_differ_line n wanted) 13 status) at_points closes))
+
+pub takes_both : (files : Files) (sim : SimState) (points wanted : ℕ) (p : Program) → points ≡ sim.state.points → wanted ≡ p.nets.points → wanted ≡ points → TakesHarness files.harness sim → TakesWires files.wires p → TakesBoth files sim p
+takes_both files sim points wanted p at_points at_wanted same takes read = record { harness = takes; wires = read; same = sym at_wanted ∙ same ∙ at_points }
+
+-- what holds of a value that is there
+pub ok_more : {T E : Type 0} {P Q : T → Type 0} (result : Result T E) → ((value : T) → P value → Q value) → IfOk result P → IfOk result Q
+ok_more (Ok value) more holds = more value holds
+ok_more (Err why) more holds = tt
 
 pub with_line : (sunk : Sunk) (line text : List ℕ) (own status : ℕ) → line ≡ text → ClosesWith sunk line own status → ClosesWith sunk text own status
 with_line sunk line text own status is closes = subst (λ (l : List ℕ). ClosesWith sunk l own status) is closes
