@@ -220,33 +220,41 @@ fn nets(alloc: Global, n: u16, pairs: bool) -> Result<String, Fail> {
     Ok(text)
 }
 
+/// What the test of a unit came to in words, and the readings that were spent.
+fn counted(alloc: Global, harness: &str, wires: &str) -> Result<(String, u64), Fail> {
+    let Came { words, rig } = run(alloc, harness, wires)?;
+    Ok((words, rig.readings()))
+}
+
 #[test]
-fn readings_of_many_points_are_counted(rt: HostRuntime) -> Result<(), Fail> {
-    let alloc = rt.alloc();
-    let one = run(
-        alloc,
-        &wired(alloc, 1024, false, "")?,
-        &nets(alloc, 1024, false)?,
-    )?;
-    assert_eq!(rt; one.words.as_str(), "pass");
-    assert_eq!(rt; one.rig.readings(), 1023);
-    for (points, readings) in [(1024u16, 10u64), (4096, 12)] {
-        let harness = format!(in alloc; "points {points}\nunit SN1 1\nend\n")?;
-        let came = run(
-            alloc,
-            &harness,
-            &format!(in alloc; "part,P1,1\npoints,{points}\n")?,
-        )?;
-        assert_eq!(rt; came.words.as_str(), "pass");
-        assert_eq!(rt; came.rig.readings(), readings);
+fn readings_of_one_net_are_counted(rt: HostRuntime) -> Result<(), Fail> {
+    let harness = wired(rt.alloc(), 1024, false, "")?;
+    let wires = nets(rt.alloc(), 1024, false)?;
+    let (words, readings) = counted(rt.alloc(), &harness, &wires)?;
+    assert_eq!(rt; words.as_str(), "pass");
+    assert_eq!(rt; readings, 1023);
+    Ok(())
+}
+
+#[test]
+fn readings_of_single_points_are_counted(rt: HostRuntime) -> Result<(), Fail> {
+    for (points, wanted) in [(1024u16, 10u64), (4096, 12)] {
+        let harness = format!(in rt.alloc(); "points {points}\nunit SN1 1\nend\n")?;
+        let wires = format!(in rt.alloc(); "part,P1,1\npoints,{points}\n")?;
+        let (words, readings) = counted(rt.alloc(), &harness, &wires)?;
+        assert_eq!(rt; words.as_str(), "pass");
+        assert_eq!(rt; readings, wanted);
     }
-    let short = run(
-        alloc,
-        &wired(alloc, 1024, true, "wire 0 2\n")?,
-        &nets(alloc, 1024, true)?,
-    )?;
-    assert_eq!(rt; short.words.as_str(), "wiring short 0,0,1");
-    assert!(rt; short.rig.readings() <= 1059);
+    Ok(())
+}
+
+#[test]
+fn readings_of_a_short_among_pairs_are_counted(rt: HostRuntime) -> Result<(), Fail> {
+    let harness = wired(rt.alloc(), 1024, true, "wire 0 2\n")?;
+    let wires = nets(rt.alloc(), 1024, true)?;
+    let (words, readings) = counted(rt.alloc(), &harness, &wires)?;
+    assert_eq!(rt; words.as_str(), "wiring short 0,0,1");
+    assert!(rt; readings <= 1059);
     Ok(())
 }
 

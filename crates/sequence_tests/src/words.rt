@@ -97,17 +97,51 @@ pub(crate) fn found(alloc: Global, outcome: &Outcome) -> Result<String, Fail> {
     }
 }
 
+/// The name of a stop.
+fn stop_name(stop: &UnitStop<SimRig>) -> &'static str {
+    match stop {
+        UnitStop::Empty(_) => "empty",
+        UnitStop::InterlockOpen(_) => "open",
+        UnitStop::NotDischarged(_, _) => "charged",
+        UnitStop::RigFault(_) => "fault",
+        UnitStop::NotZero(_) => "stuck",
+        UnitStop::Memory(_) => "memory",
+    }
+}
+
+/// The volts that a unit was left at, where it is not discharged.
+fn volts_left(stop: &UnitStop<SimRig>) -> Option<u16> {
+    match stop {
+        UnitStop::NotDischarged(_, volts) => Some(*volts),
+        _ => None,
+    }
+}
+
+/// The rig that a stop hands back.
+fn rig_of(stop: UnitStop<SimRig>) -> SimRig {
+    match stop {
+        UnitStop::Empty(rig) => rig,
+        UnitStop::InterlockOpen(rig) => rig,
+        UnitStop::NotDischarged(rig, _) => rig,
+        UnitStop::RigFault(rig) => rig,
+        UnitStop::NotZero(stuck) => stuck.into_rig(),
+        UnitStop::Memory(rig) => rig,
+    }
+}
+
+/// A name, and the volts after it.
+fn name_and_volts(alloc: Global, name: &str, volts: Option<u16>) -> Result<String, Fail> {
+    match volts {
+        Some(volts) => Ok(format!(in alloc; "{name} {volts}")?),
+        None => Ok(String::from_str(alloc, name)?),
+    }
+}
+
 /// A stop, and the rig that it hands back.
 pub(crate) fn stopped(alloc: Global, stop: UnitStop<SimRig>) -> Result<(String, SimRig), Fail> {
-    match stop {
-        UnitStop::Empty(rig) => Ok((String::from_str(alloc, "empty")?, rig)),
-        UnitStop::InterlockOpen(rig) => Ok((String::from_str(alloc, "open")?, rig)),
-        UnitStop::NotDischarged(rig, volts) => Ok((format!(in alloc; "charged {volts}")?, rig)),
-        UnitStop::RigFault(rig) => Ok((String::from_str(alloc, "fault")?, rig)),
-        UnitStop::NotZero(stuck) => {
-            let rig = stuck.into_rig();
-            Ok((String::from_str(alloc, "stuck")?, rig))
-        }
-        UnitStop::Memory(rig) => Ok((String::from_str(alloc, "memory")?, rig)),
-    }
+    let name = stop_name(&stop);
+    let volts = volts_left(&stop);
+    let rig = rig_of(stop);
+    let words = name_and_volts(alloc, name, volts)?;
+    Ok((words, rig))
 }
