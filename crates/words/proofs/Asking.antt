@@ -1,17 +1,19 @@
 -- Words of the form of a command, and the values that `clap` has of them.
-use Rattle.std.proofs.Common.{◌≡◌, inl, inr, ℕ, ◌<◌, ◌≤◌, Bool, false, length, map, get_or, Bor, arith, List, [], ◌∷◌, Option, Some, None, refl, sym, ◌∙◌, ap, subst, codes}
+use Rattle.std.proofs.Common.{◌≡◌, inl, inr, ℕ, ◌<◌, ◌≤◌, Bool, true, false, length, map, get_or, Bor, arith, List, [], ◌∷◌, Option, Some, None, refl, sym, ◌∙◌, ap, subst, codes}
 use Rattle.std.specs.Prelude.{IfSome, IfNone, MatchOption, decimal}
 use Rattle.std.specs.Str.{bytes_eq}
 use Rattle.words.specs.Items.{Text, Item, read, plains, options}
 use Rattle.words.specs.Table.{IsOfTable, value_in}
 use Rattle.words.specs.Forms.{IsForm, HasOne, HasBoth}
-use Rattle.words.specs.Values.{NamesUnit, NamesSize, HasValues}
-use Rattle.words.specs.Words.{Asks, IsCommand, InAnyOrder, IsUnitName, IsSize, word_of, options_of, unit_options}
+use Rattle.words.specs.Values.{NamesUnit, NamesService, HasValues}
+use Rattle.words.specs.Words.{Asks, IsCommand, InAnyOrder, IsUnitName, IsService, word_of, options_of, unit_options, service_options}
 use Rattle.words.specs.declared.forms.Verb.{Verb}
 use Rattle.words.specs.declared.forms.Verb.TheVariants as verb
 use Rattle.words.specs.declared.command.Command.{Command}
-use Rattle.words.specs.declared.command.Command.TheVariants.{Continuity, Learn, Run, Soak}
+use Rattle.words.specs.declared.command.Command.TheVariants.{Continuity, Learn, Run, Import, Serve, Report, Unit, Export, Soak}
+use Rattle.words.specs.declared.command.Service.{Service}
 use Rattle.words.specs.declared.command.UnitName.{UnitName}
+use Rattle.words.proofs.Places.{form_place}
 
 -- each form is one of the table
 pub of_table : (v : Verb) (xs : List Item) (word : Text) → plains xs ≡ word ∷ [] → IsForm v word (options xs) → IsOfTable xs
@@ -19,45 +21,77 @@ of_table verb.Continuity xs word one (is, both) = inl (one ∙ ap (λ (w : Text)
 of_table verb.Learn xs word one (is, both) = inr (inl (one ∙ ap (λ (w : Text). w ∷ []) is, both.0, both.1, both.2))
 of_table verb.Soak xs word one (is, size) = inr (inr (inr (inr (inr (inr (inr (inr (one ∙ ap (λ (w : Text). w ∷ []) is, size.0, size.1))))))))
 of_table verb.Run xs word one (is, none) = inr (inr (inl (one ∙ ap (λ (w : Text). w ∷ []) is, none)))
+of_table verb.Import xs word one (is, none) = inr (inr (inr (inl (one ∙ ap (λ (w : Text). w ∷ []) is, none))))
+of_table verb.Report xs word one (is, none) = inr (inr (inr (inr (inl (one ∙ ap (λ (w : Text). w ∷ []) is, none)))))
+of_table verb.Export xs word one (is, none) = inr (inr (inr (inr (inr (inl (one ∙ ap (λ (w : Text). w ∷ []) is, none))))))
+of_table verb.Unit xs word one (is, serial) = inr (inr (inr (inr (inr (inr (inl (one ∙ ap (λ (w : Text). w ∷ []) is, serial.0, serial.1)))))))
+of_table verb.Serve xs word one (is, both) = inr (inr (inr (inr (inr (inr (inr (inl (one ∙ ap (λ (w : Text). w ∷ []) is, both.0, both.1, both.2))))))))
 
--- ---- a unit's two options
+-- ---- two options
+
+-- two names are not the same, and each is itself
+record AreApart (first second : Text) : Type 0 where
+  own : bytes_eq first first ≡ true
+  also : bytes_eq second second ≡ true
+  before : bytes_eq first second ≡ false
+  behind : bytes_eq second first ≡ false
+
+module _ (value : Text → Option Text) (O : List (Text × Text)) (first second : Text) (apart : AreApart first second) (at_first : value first ≡ value_in first O)
+    (at_second : value second ≡ value_in second O) (one other : Text) where
+  both_settings : HasBoth first second O → value first ≡ Some one → value second ≡ Some other → InAnyOrder O ((first, one) ∷ (second, other) ∷ [])
+  both_settings (v, w, inl e) is_first is_second =
+      let f : value first ≡ Some v = at_first ∙ ap (value_in first) e ∙ rw apart.own refl in
+      let s : value second ≡ Some w = at_second ∙ ap (value_in second) e ∙ rw (apart.before, apart.also) refl in
+      let same : v ≡ one = cc in
+      let also : w ≡ other = cc in
+      inl (e ∙ rw (same, also) refl)
+  both_settings (v, w, inr e) is_first is_second =
+      let f : value first ≡ Some v = at_first ∙ ap (value_in first) e ∙ rw (apart.behind, apart.own) refl in
+      let s : value second ≡ Some w = at_second ∙ ap (value_in second) e ∙ rw apart.also refl in
+      let same : v ≡ one = cc in
+      let also : w ≡ other = cc in
+      inr (e ∙ rw (same, also) refl)
+
+  both_values : InAnyOrder O ((first, one) ∷ (second, other) ∷ []) → (value first ≡ Some one) × (value second ≡ Some other)
+  both_values (inl e) = (at_first ∙ ap (value_in first) e ∙ rw apart.own refl, at_second ∙ ap (value_in second) e ∙ rw (apart.before, apart.also) refl)
+  both_values (inr e) = (at_first ∙ ap (value_in first) e ∙ rw (apart.behind, apart.own) refl, at_second ∙ ap (value_in second) e ∙ rw apart.also refl)
+
+serial_attempt : AreApart (codes "serial") (codes "attempt")
+serial_attempt = record { own = refl; also = refl; before = refl; behind = refl }
+
+port_count : AreApart (codes "port") (codes "count")
+port_count = record { own = refl; also = refl; before = refl; behind = refl }
 
 module _ (value : Text → Option Text) (O : List (Text × Text)) (at_serial : value (codes "serial") ≡ value_in (codes "serial") O) (at_attempt : value (codes "attempt") ≡ value_in (codes "attempt") O) (unit : UnitName) where
-  pub unit_settings : HasBoth (codes "serial") (codes "attempt") O → NamesUnit value unit → InAnyOrder O (unit_options unit)
-  unit_settings (v, w, inl e) names =
-      let s : value (codes "serial") ≡ Some v = at_serial ∙ ap (value_in (codes "serial")) e in
-      let a : value (codes "attempt") ≡ Some w = at_attempt ∙ ap (value_in (codes "attempt")) e in
-      let ns = names.serial in
-      let na = names.attempt in
-      let sv : v ≡ unit.serial = cc in
-      let aw : w ≡ decimal unit.attempt = cc in
-      inl (e ∙ rw (sv, aw) refl)
-  unit_settings (v, w, inr e) names =
-      let s : value (codes "serial") ≡ Some v = at_serial ∙ ap (value_in (codes "serial")) e in
-      let a : value (codes "attempt") ≡ Some w = at_attempt ∙ ap (value_in (codes "attempt")) e in
-      let ns = names.serial in
-      let na = names.attempt in
-      let sv : v ≡ unit.serial = cc in
-      let aw : w ≡ decimal unit.attempt = cc in
-      inr (e ∙ rw (sv, aw) refl)
+  unit_settings : HasBoth (codes "serial") (codes "attempt") O → NamesUnit value unit → InAnyOrder O (unit_options unit)
+  unit_settings has names = both_settings value O _ _ serial_attempt at_serial at_attempt unit.serial (decimal unit.attempt) has names.serial names.attempt
 
-  pub unit_values : InAnyOrder O (unit_options unit) → IsUnitName unit → NamesUnit value unit
-  unit_values (inl e) in_range = record { serial = at_serial ∙ ap (value_in (codes "serial")) e; attempt = at_attempt ∙ ap (value_in (codes "attempt")) e; in_range = in_range }
-  unit_values (inr e) in_range = record { serial = at_serial ∙ ap (value_in (codes "serial")) e; attempt = at_attempt ∙ ap (value_in (codes "attempt")) e; in_range = in_range }
+  unit_values : InAnyOrder O (unit_options unit) → IsUnitName unit → NamesUnit value unit
+  unit_values given in_range =
+      let both = both_values value O _ _ serial_attempt at_serial at_attempt unit.serial (decimal unit.attempt) given in
+      record { serial = both.0; attempt = both.1; in_range = in_range }
 
--- ---- a size
+module _ (value : Text → Option Text) (O : List (Text × Text)) (at_port : value (codes "port") ≡ value_in (codes "port") O) (at_count : value (codes "count") ≡ value_in (codes "count") O) (service : Service) where
+  service_settings : HasBoth (codes "port") (codes "count") O → NamesService value service → InAnyOrder O (service_options service)
+  service_settings has names = both_settings value O _ _ port_count at_port at_count (decimal service.port) (decimal service.count) has names.port names.count
 
-module _ (value : Text → Option Text) (O : List (Text × Text)) (at_size : value (codes "size") ≡ value_in (codes "size") O) (size : ℕ) where
-  pub size_settings : HasOne (codes "size") O → NamesSize value size → InAnyOrder O ((codes "size", decimal size) ∷ [])
-  size_settings (v, e) names =
-      let s : value (codes "size") ≡ Some v = at_size ∙ ap (value_in (codes "size")) e in
-      let ns = names.size_is in
-      let same : v ≡ decimal size = cc in
+  service_values : InAnyOrder O (service_options service) → IsService service → NamesService value service
+  service_values given in_range =
+      let both = both_values value O _ _ port_count at_port at_count (decimal service.port) (decimal service.count) given in
+      record { port = both.0; count = both.1; in_range = in_range }
+
+-- ---- one option
+
+module _ (value : Text → Option Text) (O : List (Text × Text)) (name : Text) (own : bytes_eq name name ≡ true) (at_name : value name ≡ value_in name O) (one : Text) where
+  one_setting : HasOne name O → value name ≡ Some one → InAnyOrder O ((name, one) ∷ [])
+  one_setting (v, e) is =
+      let n : value name ≡ Some v = at_name ∙ ap (value_in name) e ∙ rw own refl in
+      let same : v ≡ one = cc in
       inl (e ∙ rw same refl)
 
-  pub size_values : InAnyOrder O ((codes "size", decimal size) ∷ []) → IsSize size → NamesSize value size
-  size_values (inl e) in_range = record { size_is = at_size ∙ ap (value_in (codes "size")) e; in_range = in_range }
-  size_values (inr e) in_range = record { size_is = at_size ∙ ap (value_in (codes "size")) e; in_range = in_range }
+  one_value : InAnyOrder O ((name, one) ∷ []) → value name ≡ Some one
+  one_value (inl e) = at_name ∙ ap (value_in name) e ∙ rw own refl
+  one_value (inr e) = at_name ∙ ap (value_in name) e ∙ rw own refl
 
 -- ---- the command of the values
 
@@ -79,17 +113,39 @@ module _ (words : List Text) (xs : List Item) (word : Text) (falls : read None w
     in_range = names.in_range;
   }
   asks_of verb.Run Run (is, none) values = record { items = xs; falls = falls; word = one ∙ ap (λ (w : Text). w ∷ []) is; settings = inl none; in_range = tt }
+  asks_of verb.Import Import (is, none) values = record { items = xs; falls = falls; word = one ∙ ap (λ (w : Text). w ∷ []) is; settings = inl none; in_range = tt }
+  asks_of verb.Serve (Serve service) (is, both) names = record {
+    items = xs;
+    falls = falls;
+    word = one ∙ ap (λ (w : Text). w ∷ []) is;
+    settings = service_settings value (options xs) (values _ refl) (values _ refl) service both names;
+    in_range = names.in_range;
+  }
+  asks_of verb.Report Report (is, none) values = record { items = xs; falls = falls; word = one ∙ ap (λ (w : Text). w ∷ []) is; settings = inl none; in_range = tt }
+  asks_of verb.Unit (Unit serial) (is, has) names = record {
+    items = xs;
+    falls = falls;
+    word = one ∙ ap (λ (w : Text). w ∷ []) is;
+    settings = one_setting value (options xs) _ refl (values _ refl) serial has names.serial_is;
+    in_range = names.named;
+  }
+  asks_of verb.Export Export (is, none) values = record { items = xs; falls = falls; word = one ∙ ap (λ (w : Text). w ∷ []) is; settings = inl none; in_range = tt }
   asks_of verb.Soak (Soak size) (is, has) names = record {
     items = xs;
     falls = falls;
     word = one ∙ ap (λ (w : Text). w ∷ []) is;
-    settings = size_settings value (options xs) (values _ refl) size has names;
+    settings = one_setting value (options xs) _ refl (values _ refl) (decimal size) has names.size_is;
     in_range = names.in_range;
   }
   asks_of verb.Soak other form names = absurd names
   asks_of verb.Continuity other form names = absurd names
   asks_of verb.Learn other form names = absurd names
   asks_of verb.Run other form names = absurd names
+  asks_of verb.Import other form names = absurd names
+  asks_of verb.Serve other form names = absurd names
+  asks_of verb.Report other form names = absurd names
+  asks_of verb.Unit other form names = absurd names
+  asks_of verb.Export other form names = absurd names
 
   items_are : (command : Command) (asks : Asks words command) → asks.items ≡ xs
   items_are command asks = let a = asks.falls in cc
@@ -106,11 +162,21 @@ module _ (words : List Text) (xs : List Item) (word : Text) (falls : read None w
   values_are verb.Continuity (Continuity unit) form asks = unit_values value (options xs) (values _ refl) (values _ refl) unit (settings_are (Continuity unit) asks) asks.in_range
   values_are verb.Learn (Learn unit) form asks = unit_values value (options xs) (values _ refl) (values _ refl) unit (settings_are (Learn unit) asks) asks.in_range
   values_are verb.Run Run form asks = tt
-  values_are verb.Soak (Soak size) form asks = size_values value (options xs) (values _ refl) size (settings_are (Soak size) asks) asks.in_range
-  values_are verb.Soak other form asks = let both = sym form.0 ∙ word_is other asks in cc
-  values_are verb.Continuity other form asks = let both = sym form.0 ∙ word_is other asks in cc
-  values_are verb.Learn other form asks = let both = sym form.0 ∙ word_is other asks in cc
-  values_are verb.Run other form asks = let both = sym form.0 ∙ word_is other asks in cc
+  values_are verb.Import Import form asks = tt
+  values_are verb.Serve (Serve service) form asks = service_values value (options xs) (values _ refl) (values _ refl) service (settings_are (Serve service) asks) asks.in_range
+  values_are verb.Report Report form asks = tt
+  values_are verb.Unit (Unit serial) form asks = record { serial_is = one_value value (options xs) _ refl (values _ refl) serial (settings_are (Unit serial) asks); named = asks.in_range }
+  values_are verb.Export Export form asks = tt
+  values_are verb.Soak (Soak size) form asks = record { size_is = one_value value (options xs) _ refl (values _ refl) (decimal size) (settings_are (Soak size) asks); in_range = asks.in_range }
+  values_are verb.Soak other form asks = let both = form_place verb.Soak word (options xs) other form (word_is other asks) in cc
+  values_are verb.Continuity other form asks = let both = form_place verb.Continuity word (options xs) other form (word_is other asks) in cc
+  values_are verb.Learn other form asks = let both = form_place verb.Learn word (options xs) other form (word_is other asks) in cc
+  values_are verb.Run other form asks = let both = form_place verb.Run word (options xs) other form (word_is other asks) in cc
+  values_are verb.Import other form asks = let both = form_place verb.Import word (options xs) other form (word_is other asks) in cc
+  values_are verb.Serve other form asks = let both = form_place verb.Serve word (options xs) other form (word_is other asks) in cc
+  values_are verb.Report other form asks = let both = form_place verb.Report word (options xs) other form (word_is other asks) in cc
+  values_are verb.Unit other form asks = let both = form_place verb.Unit word (options xs) other form (word_is other asks) in cc
+  values_are verb.Export other form asks = let both = form_place verb.Export word (options xs) other form (word_is other asks) in cc
 
   pub the_command : (v : Verb) (found : Option Command) → IsForm v word (options xs) → IfSome found (HasValues v value) → IfNone found ((command : Command) → HasValues v value command → ⊥)
       → MatchOption found (IsCommand words → ⊥) (Asks words)
@@ -135,17 +201,28 @@ module _ (words : List Text) (xs : List Item) (falls : read None words ≡ Some 
       let same : asks.items ≡ xs = cc in
       subst (λ (ys : List Item). InAnyOrder (options ys) (options_of command)) same asks.settings
 
-has_both : (unit : UnitName) (O : List (Text × Text)) → InAnyOrder O (unit_options unit) → HasBoth (codes "serial") (codes "attempt") O
-has_both unit O (inl e) = (unit.serial, decimal unit.attempt, inl e)
-has_both unit O (inr e) = (unit.serial, decimal unit.attempt, inr e)
+has_both : (first second v w : Text) (O : List (Text × Text)) → InAnyOrder O ((first, v) ∷ (second, w) ∷ []) → HasBoth first second O
+has_both first second v w O (inl e) = (v, w, inl e)
+has_both first second v w O (inr e) = (v, w, inr e)
+
+has_one : (name v : Text) (O : List (Text × Text)) → InAnyOrder O ((name, v) ∷ []) → HasOne name O
+has_one name v O (inl e) = (v, e)
+has_one name v O (inr e) = (v, e)
+
+has_none : (O : List (Text × Text)) → InAnyOrder O [] → O ≡ []
+has_none O (inl none) = none
+has_none O (inr none) = none
 
 form_of : (command : Command) (O : List (Text × Text)) → InAnyOrder O (options_of command) → (v : Verb) × IsForm v (word_of command) O
-form_of (Continuity unit) O settings = (verb.Continuity, (refl, has_both unit O settings))
-form_of (Learn unit) O settings = (verb.Learn, (refl, has_both unit O settings))
-form_of (Soak size) O (inl e) = (verb.Soak, (refl, (decimal size, e)))
-form_of (Soak size) O (inr e) = (verb.Soak, (refl, (decimal size, e)))
-form_of Run O (inl none) = (verb.Run, (refl, none))
-form_of Run O (inr none) = (verb.Run, (refl, none))
+form_of (Continuity unit) O settings = (verb.Continuity, (refl, has_both _ _ _ _ O settings))
+form_of (Learn unit) O settings = (verb.Learn, (refl, has_both _ _ _ _ O settings))
+form_of Run O settings = (verb.Run, (refl, has_none O settings))
+form_of Import O settings = (verb.Import, (refl, has_none O settings))
+form_of (Serve service) O settings = (verb.Serve, (refl, has_both _ _ _ _ O settings))
+form_of Report O settings = (verb.Report, (refl, has_none O settings))
+form_of (Unit serial) O settings = (verb.Unit, (refl, has_one _ _ O settings))
+form_of Export O settings = (verb.Export, (refl, has_none O settings))
+form_of (Soak size) O settings = (verb.Soak, (refl, has_one _ _ O settings))
 
 pub no_form : (words : List Text) (xs : List Item) (word : Text) → read None words ≡ Some xs → plains xs ≡ word ∷ [] → ((v : Verb) → IsForm v word (options xs) → ⊥) → IsCommand words → ⊥
 no_form words xs word falls one none (command, asks) =

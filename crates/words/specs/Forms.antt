@@ -2,7 +2,7 @@
 use Rattle.std.specs.Prelude.{◌≡◌, ◌⊎◌, List, [], ◌∷◌, codes}
 use Rattle.words.specs.Items.{Text}
 use Rattle.words.specs.declared.forms.Verb.{Verb}
-use Rattle.words.specs.declared.forms.Verb.TheVariants.{Continuity, Learn, Run, Soak}
+use Rattle.words.specs.declared.forms.Verb.TheVariants.{Continuity, Learn, Run, Import, Serve, Report, Unit, Export, Soak}
 use Rattle.words.specs.declared.parts.Setting.{Setting}
 
 -- an option as its name and its value
@@ -23,4 +23,9 @@ abbrev pub IsForm : Verb → Text → List (Text × Text) → Type 0
 IsForm Continuity word options = (word ≡ codes "continuity") × HasBoth (codes "serial") (codes "attempt") options
 IsForm Learn word options = (word ≡ codes "learn") × HasBoth (codes "serial") (codes "attempt") options
 IsForm Run word options = (word ≡ codes "run") × (options ≡ [])
+IsForm Import word options = (word ≡ codes "import") × (options ≡ [])
+IsForm Serve word options = (word ≡ codes "serve") × HasBoth (codes "port") (codes "count") options
+IsForm Report word options = (word ≡ codes "report") × (options ≡ [])
+IsForm Unit word options = (word ≡ codes "unit") × HasOne (codes "serial") options
+IsForm Export word options = (word ≡ codes "export") × (options ≡ [])
 IsForm Soak word options = (word ≡ codes "soak") × HasOne (codes "size") options

@@ -11,6 +11,11 @@ pub(crate) enum Verb {
     Continuity,
     Learn,
     Run,
+    Import,
+    Serve,
+    Report,
+    Unit,
+    Export,
     Soak,
 }
 
@@ -28,6 +33,21 @@ pub(crate) fn verb_of(word: &str, options: &[Setting<'_>]) -> Option<Verb>
     if is_form(Verb::Run, word, options) {
         return Some(Verb::Run);
     }
+    if is_form(Verb::Import, word, options) {
+        return Some(Verb::Import);
+    }
+    if is_form(Verb::Serve, word, options) {
+        return Some(Verb::Serve);
+    }
+    if is_form(Verb::Report, word, options) {
+        return Some(Verb::Report);
+    }
+    if is_form(Verb::Unit, word, options) {
+        return Some(Verb::Unit);
+    }
+    if is_form(Verb::Export, word, options) {
+        return Some(Verb::Export);
+    }
     if is_form(Verb::Soak, word, options) {
         return Some(Verb::Soak);
     }
@@ -42,6 +62,11 @@ fn is_form(verb: Verb, word: &str, options: &[Setting<'_>]) -> bool
         Verb::Continuity => word == "continuity" && has_both(options, "serial", "attempt"),
         Verb::Learn => word == "learn" && has_both(options, "serial", "attempt"),
         Verb::Run => word == "run" && has_none(options),
+        Verb::Import => word == "import" && has_none(options),
+        Verb::Serve => word == "serve" && has_both(options, "port", "count"),
+        Verb::Report => word == "report" && has_none(options),
+        Verb::Unit => word == "unit" && has_one(options, "serial"),
+        Verb::Export => word == "export" && has_none(options),
         Verb::Soak => word == "soak" && has_one(options, "size"),
     }
 }

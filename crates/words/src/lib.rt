@@ -13,7 +13,7 @@ mod items;
 mod parts;
 mod reading;
 
-pub use command::{Command, UnitName};
+pub use command::{Command, Service, UnitName};
 pub use reading::read_words;
 
 #[cfg(test)]

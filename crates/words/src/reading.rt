@@ -6,10 +6,10 @@ ghost use Rattle.clap.specs.Matches.{first_value};
 ghost use Rattle.words.specs.Items.{Item, read, plains, options};
 ghost use Rattle.words.specs.Table.{the_app, command_rule, option_rule};
 ghost use Rattle.words.specs.Forms.{IsForm};
-ghost use Rattle.words.specs.Values.{HasValues, NamesUnit, NamesSize};
+ghost use Rattle.words.specs.Values.{HasValues, NamesUnit, NamesService, NamesSerial, NamesSize};
 ghost use Rattle.words.specs.Words.{Asks, IsCommand};
 
-use crate::command::{Command, UnitName};
+use crate::command::{Command, Service, UnitName};
 use crate::forms::{Verb, verb_of};
 use crate::items::items_of;
 use crate::parts::parts_of;
@@ -62,6 +62,11 @@ fn values_of(verb: Verb, matches: &ArgMatches<'_>) -> Option<Command>
         Verb::Continuity => unit_of(matches).map(Command::Continuity),
         Verb::Learn => unit_of(matches).map(Command::Learn),
         Verb::Run => Some(Command::Run),
+        Verb::Import => Some(Command::Import),
+        Verb::Serve => service_of(matches).map(Command::Serve),
+        Verb::Report => Some(Command::Report),
+        Verb::Unit => serial_of(matches).map(Command::Unit),
+        Verb::Export => Some(Command::Export),
         Verb::Soak => size_of(matches).map(Command::Soak),
     }
 }
@@ -79,6 +84,30 @@ fn unit_of(matches: &ArgMatches<'_>) -> Option<UnitName>
         serial,
         attempt: attempt as u8,
     })
+}
+
+/// The service that the values name.
+fn service_of(matches: &ArgMatches<'_>) -> Option<Service>
+    ensures some { IfSome result (NamesService (first_value (found_of matches.now))) }
+    ensures none { IfNone result ((service : Service) → NamesService (first_value (found_of matches.now)) service → ⊥) }
+{
+    let port = matches.get_str("port")?;
+    let count = matches.get_str("count")?;
+    let port = read_number(port.as_bytes(), 1, 65_535)?;
+    let count = read_number(count.as_bytes(), 1, 1_000_000)?;
+    Some(Service {
+        port: port as u16,
+        count: count as u32,
+    })
+}
+
+/// The serial that the value names.
+fn serial_of(matches: &ArgMatches<'_>) -> Option<Name>
+    ensures some { IfSome result (NamesSerial (first_value (found_of matches.now))) }
+    ensures none { IfNone result ((serial : List ℕ) → NamesSerial (first_value (found_of matches.now)) serial → ⊥) }
+{
+    let serial = matches.get_str("serial")?;
+    Name::read(serial.as_bytes())
 }
 
 /// The size that the value names.

@@ -25,6 +25,25 @@ fn options_stand_in_any_place(rt: HostRuntime) -> Result<(), Fail> {
     Ok(())
 }
 
+#[test]
+fn each_command_has_its_options(rt: HostRuntime) -> Result<(), Fail> {
+    assert!(rt; matches!(read(&rt, "import")?, Some(Command::Import)));
+    assert!(rt; matches!(read(&rt, "report")?, Some(Command::Report)));
+    assert!(rt; matches!(read(&rt, "export")?, Some(Command::Export)));
+    assert!(rt; matches!(read(&rt, "--serial SN1 unit")?, Some(Command::Unit(_))));
+    assert!(rt; asks_to_serve(read(&rt, "serve --port 1 --count=1000000")?, 1, 1_000_000));
+    assert!(rt; asks_to_serve(read(&rt, "--count 1 serve --port=65535")?, 65_535, 1));
+    Ok(())
+}
+
+/// Whether the command is to serve so many connections at this port.
+fn asks_to_serve(command: Option<Command>, port: u16, count: u32) -> bool {
+    match command {
+        Some(Command::Serve(service)) => service.port == port && service.count == count,
+        _ => false,
+    }
+}
+
 /// Whether the command is the check of the first attempt of SN1.
 fn asks_for_sn1(command: Option<Command>) -> bool {
     match command {
@@ -52,6 +71,18 @@ fn other_words_are_no_command(rt: HostRuntime) -> Result<(), Fail> {
         "rnu",
         "run run",
         "run --size 4",
+        "import --serial SN1",
+        "report report",
+        "export --size 4",
+        "unit",
+        "unit --serial -a",
+        "unit --serial SN1 --attempt 1",
+        "serve --port 1",
+        "serve --port 0 --count 1",
+        "serve --port 65536 --count 1",
+        "serve --port 1 --count 0",
+        "serve --port 1 --count 1000001",
+        "serve --port 1 --count 1 --port 2",
         "soak --size 3",
         "soak --size 4097",
     ] {
