@@ -5,7 +5,6 @@ use Rattle.bench_edge.specs.declared.stream.EdgeStop.{EdgeStop}
 use Rattle.bench_edge.specs.Streams.{SameOtherHalf}
 use Rattle.bench_edge.specs.Whole.{WroteFront}
 use Rattle.bench_edge.proofs.Calls.{WroteFront-all}
-use Rattle.door_edge.specs.Doors.{Talk}
 use Rattle.disk_edge.specs.Disk.{DiskState}
 use Rattle.rig.specs.RigState.{RigState}
 use Rattle.station.specs.declared.stops.StepStop.{StepStop}
@@ -15,15 +14,13 @@ use Rattle.http_exchange.specs.Reading.{TakesRequest}
 use Rattle.station_http.specs.declared.serve.ServeDone.{ServeDone}
 use Rattle.http_exchange.specs.declared.reply.Stop.TheVariants as stop
 use Rattle.http_exchange.specs.Replies.{reply_bytes, stop_reply}
+use Rattle.station_http.specs.ItsReply.{talk_of}
 use Rattle.station_http.specs.Served.{Finishes, IsRead, StopsUnread}
 
 -- whatever the answer, a front was written
 pub front-written : {T : Type 0} (old new : Option (List ℕ)) (bytes : List ℕ) (r : Result T EdgeStop) → OnOk r (Appends old new bytes) → OnErr r (WroteFront old new bytes) → WroteFront old new bytes
 front-written old new bytes (Ok x) whole part = WroteFront-all old new bytes whole
 front-written old new bytes (Err e) whole part = part
-
-abbrev pub talk_of : Option (List ℕ) → Option (List ℕ) → ℕ → ℕ → Talk
-talk_of left got read_faults write_faults = record { left = left; got = got; read_faults = read_faults; write_faults = write_faults }
 
 -- a request was read, and then its turn was finished
 pub read-finished : {R D : Type 0} (rig_state : R → RigState) (disk_state : D → DiskState) (old : StationState) (r : Request) (moments moments' : Option (List ℕ))

@@ -1,9 +1,12 @@
 //! A connection: its request is read, answered and replied.
 
-ghost use Rattle.std.specs.Prelude.{◌≡◌, List, ℕ, Option, None};
+ghost use Rattle.std.specs.Prelude.{◌≡◌, List, ℕ, Option, None, IfOk};
 ghost use Rattle.bench_edge.specs.Streams.{SameOtherHalf};
-ghost use Rattle.station.specs.View.{StationState};
+ghost use Rattle.station.specs.View.{StationState, IsStanding};
 ghost use Rattle.http_exchange.specs.declared.request.Request.{Request};
+ghost use Rattle.station_http.specs.ItsReply.{Replies, talk_of};
+ghost use Rattle.station_http.specs.Ordered.{LeavesInOrder};
+ghost use Rattle.station_http.specs.RigLeft.{Does, IsAtZero};
 ghost use Rattle.station_http.specs.Served.{IsTurn, Served, Finishes};
 
 use crate::turn::{Turn, turn_for};
@@ -25,6 +28,32 @@ pub struct ServeDone<R: Rig, D: Disk> {
 ///
 /// The reply is written after the station's step returned. A stop comes after its reply was tried.
 pub fn serve_one<R: Rig + Drop, D: Disk, S: Source + Sink, C: Clock>(
+    alloc: Global,
+    station: Station<R, D>,
+    conn: &mut S,
+    clock: &mut C,
+) -> Result<ServeDone<R, D>, StepStop<R, D>>
+    ensures served { Served R.state D.state station
+        (record { left = S.left conn.old; got = S.got conn.old; read_faults = S.read_faults conn.old; write_faults = S.write_faults conn.old })
+        (record { left = S.left conn.new; got = S.got conn.new; read_faults = S.read_faults conn.new; write_faults = S.write_faults conn.new })
+        (C.moments clock.old) (C.moments clock.new) result }
+
+    // Where the connection's bytes are told, it is its reply.
+    ensures replies { Replies D.state station
+        (talk_of (S.left conn.old) (S.got conn.old) (S.read_faults conn.old) (S.write_faults conn.old))
+        (talk_of (S.left conn.new) (S.got conn.new) (S.read_faults conn.new) (S.write_faults conn.new))
+        (C.moments clock.old) (C.moments clock.new) result }
+    ensures standing { IfOk result (λ done. IsStanding done.station) }
+    ensures order { LeavesInOrder R.state station result }
+    ensures at_zero { IsAtZero R.state result }
+    ensures rig { Does R.state station result }
+{
+    let _records = station.records();
+    read_and_reply(alloc, station, conn, clock)
+}
+
+/// Reads a request, does what it asks, and replies.
+fn read_and_reply<R: Rig + Drop, D: Disk, S: Source + Sink, C: Clock>(
     alloc: Global,
     station: Station<R, D>,
     conn: &mut S,

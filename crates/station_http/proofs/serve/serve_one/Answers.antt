@@ -1,16 +1,20 @@
-use Rattle.std.proofs.Common.{inl, inr}
-use Rattle.station_http.proofs.ServeLemmas.{front-written, read-finished, unread-memory}
+use Rattle.station_http.proofs.OrderLemmas.{served_order, served_standing}
+use Rattle.station_http.proofs.RepliesLemmas.{served_replies}
+use Rattle.station_http.proofs.RigLeftLemmas.{served_does}
 use Rattle.station_http.proofs.serve.serve_one.Goals as goal
 
-pub returns-in-Some : goal.returns-in-Some
-returns-in-Some g c =
-    let takes = rw c.in-Some.is at c.in-Ok.ensures.request in
-    let finishes = c.finish.ensures.finishes c.args.station c.in-Some.request _ _ c.turn_for-turn.ensures in
-    inl (read-finished _ _ c.args.station c.in-Some.request _ _ _ _ _ _ _ _ _ _ _ _ _ _ c.finish.result takes c.in-Ok.ensures.counted c.in-Ok.ensures.apart c.finish.ensures.apart finishes)
+pub returns-clause-replies : goal.returns-clause-replies
+returns-clause-replies g c =
+    served_replies _ _ c.args.station _ _ _ _ c.read_and_reply.result c.records-records.ensures.standing.images c.read_and_reply.ensures
 
-pub returns-in-Memory : goal.returns-in-Memory
-returns-in-Memory g c =
-    let quiet = rw c.in-Memory.is at c.in-Err.ensures.counted in
-    let front = front-written _ _ _ c.write_all-tried.result c.write_all-tried.ensures.ok c.write_all-tried.ensures.refused in
-    inr (unread-memory c.args.station _ _ _ _ _ _ _ _ _ _ _ _ _ _ _ _ quiet c.in-Err.ensures.apart c.write_all-tried.ensures.apart
-    c.into_parts-rig.ensures.rig c.into_parts-rig.ensures.disk c.stop_reply.ensures front)
+pub returns-clause-standing : goal.returns-clause-standing
+returns-clause-standing g c = served_standing _ _ c.args.station _ _ _ _ c.read_and_reply.result c.read_and_reply.ensures c.records-records.ensures.standing
+
+pub returns-clause-order : goal.returns-clause-order
+returns-clause-order g c = served_order _ _ c.args.station _ _ _ _ c.read_and_reply.result c.read_and_reply.ensures
+
+pub returns-clause-at_zero : goal.returns-clause-at_zero
+returns-clause-at_zero g c = (served_does _ _ c.args.station _ _ _ _ c.read_and_reply.result c.records-records.ensures.standing c.read_and_reply.ensures).1
+
+pub returns-clause-rig : goal.returns-clause-rig
+returns-clause-rig g c = (served_does _ _ c.args.station _ _ _ _ c.read_and_reply.result c.records-records.ensures.standing c.read_and_reply.ensures).0
