@@ -29,7 +29,7 @@ use Rattle.serving.proofs.EndLemmas.{Within, Stuck, EndWay, ends-way}
 
 -- ---- statuses
 
-busy : (status : ℕ) (closing : Closing) (P : Type 0) → status ≡ status_of closing → (closing ≡ memory) ⊎ (closing ≡ disk_fault) → IsTrue (is_at_rest status) → P
+pub busy : (status : ℕ) (closing : Closing) (P : Type 0) → status ≡ status_of closing → (closing ≡ memory) ⊎ (closing ≡ disk_fault) → IsTrue (is_at_rest status) → P
 busy status closing P is (inl e) rests = never (subst (λ (n : ℕ). IsTrue (is_at_rest n)) (is ∙ ap status_of e) rests)
   where
     never : IsTrue (is_at_rest 9) → P
@@ -56,7 +56,7 @@ is_eight network_fault e = absurd (cc e)
 -- ---- images
 
 -- behind whole turns each image keeps just their records
-pub keeps-behind : (first last : StationState) (status : ℕ) (disk : DiskState) → IsStanding first → Tells first.disk → Turns first last → disk ≡ last.disk → ServingKeeps first status disk
+unfoldable pub keeps-behind : (first last : StationState) (status : ℕ) (disk : DiskState) → IsStanding first → Tells first.disk → Turns first last → disk ≡ last.disk → ServingKeeps first status disk
 keeps-behind first last status disk standing tells all same =
     let between = between_all all.turns first last tells all.history in
     let stands = all.standing standing in
@@ -71,7 +71,7 @@ keeps-behind first last status disk standing tells all same =
       at_rest = λ rests. kept;
     }
 
-keeps-within : (first s : StationState) (status : ℕ) (closing : Closing) (rig : RigState) (disk : DiskState) → IsStanding first → Tells first.disk → Turns first s
+unfoldable pub keeps-within : (first s : StationState) (status : ℕ) (closing : Closing) (rig : RigState) (disk : DiskState) → IsStanding first → Tells first.disk → Turns first s
     → status ≡ status_of closing → (closing ≡ memory) ⊎ (closing ≡ disk_fault) → Within s rig disk → ServingKeeps first status disk
 keeps-within first s status closing rig disk standing tells so_far is which within =
     let between = between_all so_far.turns first s tells so_far.history in
@@ -88,7 +88,7 @@ keeps-within first s status closing rig disk standing tells so_far is which with
       at_rest = busy status closing (EachImage disk (IsImageOf s.records)) is which;
     }
 
-keeps-stuck : (first s : StationState) (status : ℕ) (rig : RigState) (disk : DiskState) → Tells first.disk → Turns first s → Stuck s rig disk → ServingKeeps first status disk
+unfoldable pub keeps-stuck : (first s : StationState) (status : ℕ) (rig : RigState) (disk : DiskState) → Tells first.disk → Turns first s → Stuck s rig disk → ServingKeeps first status disk
 keeps-stuck first s status rig disk tells so_far stuck =
     let between = between_all so_far.turns first s tells so_far.history in
     let steps = stuck.step between.tells in
@@ -104,7 +104,7 @@ keeps-stuck first s status rig disk tells so_far stuck =
       at_rest = λ rests. kept;
     }
 
-which-busy : (s : StationState) (closing : Closing) (disk : DiskState) → (closing ≡ memory) ⊎ ((closing ≡ disk_fault) × Rose s.disk.faults disk.faults) → (closing ≡ memory) ⊎ (closing ≡ disk_fault)
+pub which-busy : (s : StationState) (closing : Closing) (disk : DiskState) → (closing ≡ memory) ⊎ ((closing ≡ disk_fault) × Rose s.disk.faults disk.faults) → (closing ≡ memory) ⊎ (closing ≡ disk_fault)
 which-busy s closing disk (inl e) = inl e
 which-busy s closing disk (inr both) = inr both.0
 
@@ -146,7 +146,7 @@ order-within first s rig disk so_far within was =
     let program = program_all so_far.turns first s so_far.history in
     stays_in_order first.program s.rig rig (subst (λ (p : Program). StaysInOrder p s.rig rig) program within.order) (order_all first.program so_far.turns first s refl so_far.history was)
 
-not-ten : (closing : Closing) → (closing ≡ memory) ⊎ (closing ≡ disk_fault) → closing ≡ not_at_zero → ⊥
+pub not-ten : (closing : Closing) → (closing ≡ memory) ⊎ (closing ≡ disk_fault) → closing ≡ not_at_zero → ⊥
 not-ten closing (inl e) f = cc
 not-ten closing (inr e) f = cc
 

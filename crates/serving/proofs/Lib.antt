@@ -3,3 +3,9 @@ pub mod VisitingLemmas
 pub mod TurnLemmas
 pub mod EndLemmas
 pub mod KeepingLemmas
+pub mod InTurnLemmas
+pub mod TalliedLemmas
+pub mod CountedLemmas
+pub mod CompleteLemmas
+pub mod StateLemmas
+pub mod OpeningLemmas

@@ -25,12 +25,18 @@ pub record OneTurn (old new : StationState) : Type 0 where
   pub standing : IsStanding old → IsStanding new
 
 -- nothing was asked of the station
-pub no-turn : (old new : StationState) → new ≡ old → OneTurn old new
+unfoldable pub no-turn : (old new : StationState) → new ≡ old → OneTurn old new
 no-turn old new same =
-    subst (OneTurn old) (sym same) (record { asked = (0, None); now = 0; said = no_command 0; turn = none_turn old 0 0; standing = λ standing. standing })
+    record {
+      asked = (0, None);
+      now = 0;
+      said = no_command 0;
+      turn = subst (λ (s : StationState). IsTurn old (0, None) 0 (no_command 0) s) (sym same) (none_turn old 0 0);
+      standing = λ standing. subst IsStanding (sym same) standing;
+    }
 
 -- a command was answered
-pub answers-turn : (old new : StationState) (c : Command) (moments moments' : Option (List ℕ)) (reply : Reply) → Answers old c moments moments' reply new → OneTurn old new
+unfoldable pub answers-turn : (old new : StationState) (c : Command) (moments moments' : Option (List ℕ)) (reply : Reply) → Answers old c moments moments' reply new → OneTurn old new
 answers-turn old new c moments moments' reply answers =
     let done = answers.done in
     let on = done.goes_on in
@@ -43,13 +49,13 @@ answers-turn old new c moments moments' reply answers =
       standing = λ before. done.standing;
     }
 
-pub goes-turn : (old new : StationState) (r : Request) (moments moments' : Option (List ℕ)) (reply : Reply) → GoesOnWith old r moments moments' reply new → OneTurn old new
+unfoldable pub goes-turn : (old new : StationState) (r : Request) (moments moments' : Option (List ℕ)) (reply : Reply) → GoesOnWith old r moments moments' reply new → OneTurn old new
 goes-turn old new (asks.Refused why) moments moments' reply (says, alone) = no-turn old new alone.station
 goes-turn old new (asks.Unit serial) moments moments' reply (says, alone) = no-turn old new alone.station
 goes-turn old new asks.Lot moments moments' reply (says, alone) = no-turn old new alone.station
 goes-turn old new (asks.Command c) moments moments' reply answers = answers-turn old new c moments moments' reply answers
 
-pub served-turn : (old new : StationState) (came went : Talk) (moments moments' : Option (List ℕ)) (status : Option ℕ) → ServedSo old came went moments moments' status new → OneTurn old new
+unfoldable pub served-turn : (old new : StationState) (came went : Talk) (moments moments' : Option (List ℕ)) (status : Option ℕ) → ServedSo old came went moments moments' status new → OneTurn old new
 served-turn old new came went moments moments' status (inl whole) =
     let reply = whole.replied in
     goes-turn old new whole.asked moments moments' reply.reply reply.went_on
@@ -61,7 +67,7 @@ pub record Turns (first last : StationState) : Type 0 where
   pub history : IsHistory first turns last
   pub standing : IsStanding first → IsStanding last
 
-pub visits-turns : (number : ℕ) (stage : Stage) (stages : List Stage) → Visits number stage stages → Turns stage.station (last_stage stage stages).station
+unfoldable pub visits-turns : (number : ℕ) (stage : Stage) (stages : List Stage) → Visits number stage stages → Turns stage.station (last_stage stage stages).station
 visits-turns number stage [] visits = record { turns = []; history = refl; standing = λ standing. standing }
 visits-turns number stage (next ∷ more) (visit, visits) =
     let one = served-turn stage.station next.station visit.came visit.went stage.moments next.moments visit.status visit.served in
@@ -72,12 +78,12 @@ visits-turns number stage (next ∷ more) (visit, visits) =
       standing = λ standing. rest.standing (one.standing standing);
     }
 
-history-push : (turns : List Turn) (s mid : StationState) (turn : Turn) → IsHistory s turns mid → IsTurn mid turn.asked turn.now turn.said turn.after → IsHistory s (turns ++ turn ∷ []) turn.after
+pub history-push : (turns : List Turn) (s mid : StationState) (turn : Turn) → IsHistory s turns mid → IsTurn mid turn.asked turn.now turn.said turn.after → IsHistory s (turns ++ turn ∷ []) turn.after
 history-push [] s mid turn is one = (subst (λ (x : StationState). IsTurn x turn.asked turn.now turn.said turn.after) is one, refl)
 history-push (t ∷ turns) s mid turn (first, more) one = (first, history-push turns t.after mid turn more one)
 
 -- and one turn more
-pub turns-more : (first mid last : StationState) → Turns first mid → OneTurn mid last → Turns first last
+unfoldable pub turns-more : (first mid last : StationState) → Turns first mid → OneTurn mid last → Turns first last
 turns-more first mid last so_far one =
     let turn : Turn = record { asked = one.asked; now = one.now; said = one.said; after = last } in
     record {

@@ -7,11 +7,16 @@ ghost use Rattle.disk_edge.specs.Disk.{LeavesOnly};
 ghost use Rattle.door_edge.specs.Doors.{Talk};
 ghost use Rattle.journal.specs.Journal.{KeepsLimit};
 ghost use Rattle.ledger.specs.Ledger.{Tells as TellsDisk};
-ghost use Rattle.station.specs.View.{StationState};
+ghost use Rattle.station.specs.View.{StationState, IsTold};
+ghost use Rattle.unit_outcome.specs.Found.{Findings};
 ghost use Rattle.unit_outcome.specs.Tested.{IsInOrderOf};
 ghost use Rattle.station_http.specs.Served.{Served};
+ghost use Rattle.serving.specs.Completes.{Completes};
+ghost use Rattle.serving.specs.Counted.{AnswersWithin, TestsSpend};
+ghost use Rattle.serving.specs.InTurn.{ServesTold};
 ghost use Rattle.serving.specs.Keeping.{ServingKeeps, Causes, InOrderAt};
 ghost use Rattle.serving.specs.Lines.{status_of, closing_line, closed_as, unwritten_as};
+ghost use Rattle.serving.specs.Tallied.{ServingShows};
 ghost use Rattle.serving.specs.Visits.{IsVisited, ServedSo, Serves, EndsAt, Tells, closing_of, rig_of, disk_of};
 
 use crate::telling::{close, line_of, write_line};
@@ -44,6 +49,20 @@ pub fn serve_all<R: Rig + Drop, D: Disk, O: Sink, C: Clock, N: Door>(
     ensures order { IsInOrderOf station.program station.rig → InOrderAt station.program result.status (R.state result.rig) }
     ensures causes { Causes (record { out = O.write_faults out.old; disk = station.disk.faults; rig = station.rig.faults; door = N.door_faults door.old })
         (record { out = O.write_faults out.new; disk = (D.state result.disk).faults; rig = (R.state result.rig).faults; door = N.door_faults door.new }) result.status }
+
+    // Where the door and the output are told, and the rig tells its units, the connections are served in order.
+    ensures in_order { (findings : Findings) → IsTold station findings → ServesTold findings
+        (record { station = station; waiting = N.waiting door.old; done = N.done door.old; moments = C.moments clock.old; got = O.got out.old })
+        count result.status (record { rig = R.state result.rig; disk = D.state result.disk; waiting = N.waiting door.new; done = N.done door.new; moments = C.moments clock.new; got = O.got out.new }) }
+    ensures answers { AnswersWithin R.state D.state count
+        (record { station = station; waiting = N.waiting door.old; done = N.done door.old; moments = C.moments clock.old; got = O.got out.old })
+        result.status (record { rig = R.state result.rig; disk = D.state result.disk; waiting = N.waiting door.new; done = N.done door.new; moments = C.moments clock.new; got = O.got out.new }) }
+    ensures complete { Completes (record { out = O.write_faults out.old; disk = station.disk.faults; rig = station.rig.faults; door = N.door_faults door.old })
+        (record { out = O.write_faults out.new; disk = (D.state result.disk).faults; rig = (R.state result.rig).faults; door = N.door_faults door.new }) result.status }
+    ensures tests { TellsDisk station.disk → ServingShows station result.status (R.state result.rig) (D.state result.disk) }
+    ensures spent { TellsDisk station.disk → TestsSpend R.state D.state count
+        (record { station = station; waiting = N.waiting door.old; done = N.done door.old; moments = C.moments clock.old; got = O.got out.old })
+        result.status (record { rig = R.state result.rig; disk = D.state result.disk; waiting = N.waiting door.new; done = N.done door.new; moments = C.moments clock.new; got = O.got out.new }) }
 {
     let _records = station.records();
     serve_each(alloc, station, count, out, clock, door)
@@ -116,8 +135,8 @@ fn serve_next<R: Rig + Drop, D: Disk, O: Sink, C: Clock, N: Door>(
     }
 }
 
-/// The status of an accept that was refused, whose closing line is written.
-fn closed_for<O: Sink>(stop: EdgeStop, out: &mut O) -> u8
+/// The status where the door refused, whose closing line is written.
+pub(crate) fn closed_for<O: Sink>(stop: EdgeStop, out: &mut O) -> u8
     ensures status { result ≡ status_of (closed_as stop) }
     ensures line { WroteFront (O.got out.old) (O.got out.new) (closing_line (closed_as stop)) }
     ensures out_later { O.write_faults out.old ≤ O.write_faults out.new }
