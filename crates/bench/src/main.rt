@@ -1,13 +1,14 @@
 //! The program of the station.
 //!
 //! It calls [`bench_cli::bench`] over `harness.sim`, `wirelist.csv` and `station.journal` of the current folder, standard
-//! input and output, the system's clock and the words that it was given, and ends with the status of that call.
+//! input and output, the system's clock, a socket on 127.0.0.1 and the words that it was given, and ends with the status of that call.
 #![tactic(auto)]
 
 use base::{Memory, Text};
 use bench_cli::Ended;
 use bench_edge::{FileIn, RealClock, StdIn, StdOut};
 use disk_edge::FileDisk;
+use door_edge::TcpDoor;
 use std::process::ExitCode;
 use std::{env, io};
 
@@ -27,6 +28,7 @@ fn status(rt: &HostRuntime) -> Result<u8, Memory> {
     let mut out = StdOut::new(rt);
     let disk = FileDisk::new(rt, Text::from_text(rt.alloc(), "station.journal")?);
     let mut clock = RealClock::new(rt);
+    let mut door = TcpDoor::new(rt);
     let Ended {
         status,
         disk: _disk,
@@ -40,6 +42,7 @@ fn status(rt: &HostRuntime) -> Result<u8, Memory> {
         &mut out,
         disk,
         &mut clock,
+        &mut door,
     );
     Ok(status)
 }

@@ -1,5 +1,6 @@
 -- What a run promises whatever the command.
 use Rattle.std.proofs.Common.{◌≡◌, ◌≢◌, ◌⊎◌, inl, inr, ℕ, Bool, true, false, List, Option, None, Some, refl, sym, ◌∙◌, ap, subst, arith}
+use Rattle.base.specs.Causes.{Rose}
 use Rattle.bench_edge.specs.Whole.{LostFront}
 use Rattle.bench_edge.proofs.Calls.{TookFirst-lost}
 use Rattle.harness.specs.declared.row.HarnessRow.{HarnessRow}
@@ -12,9 +13,9 @@ use Rattle.wirelist.specs.declared.refusal.WireRefusal.{WireRefusal}
 use Rattle.words.specs.declared.command.Command.{Command}
 use Rattle.words.specs.Words.{Asks, IsCommand}
 use Rattle.words.proofs.OneReading.{one_reading}
-use Rattle.bench_cli.specs.Commands.{AsksFor, reads_harness, reads_wires, reads_input, uses_disk, uses_clock}
+use Rattle.bench_cli.specs.Commands.{AsksFor, reads_harness, reads_wires, reads_input, uses_disk, uses_clock, uses_door}
 use Rattle.bench_cli.specs.Closing.{Closes, CountsNone, usage_line}
-use Rattle.bench_cli.specs.Run.{Run, IsUnread, Given, nothing, simulator, both, TakesFiles, TakesHarness, StopsAtFiles, most_of_harness, most_of_wires, refusal_line}
+use Rattle.bench_cli.specs.Run.{Run, IsUnread, IsShut, Given, nothing, simulator, both, TakesFiles, TakesHarness, StopsAtFiles, most_of_harness, most_of_wires, refusal_line}
 use Rattle.bench_cli.specs.Run.StopsAtFiles.{harness_fault, harness_refused, harness_memory, wires_fault, wires_refused, wires_memory, points_differ}
 use Rattle.bench_cli.specs.Told.{TellsHarness, TellsWires, HasRows, HasRefusal, HasProgram, HasFault, FailedHarness, FailedRead, Is}
 use Rattle.bench_cli.specs.Wires.{IsWirelist, first_refusal, wires_refusal_line, points_differ_line}
@@ -118,6 +119,17 @@ module _ (run : Run) (status : ℕ) (rig : Option SimState) where
   read_fault_fact (stops command asks reads (other_points is wired sim takes p read other line)) at = absurd (omega arith)
   read_fault_fact (stops command asks reads (no_memory is quiet)) at = absurd (omega arith)
   read_fault_fact (works command asks given takes work frame) at = let fault = frame.read_fault at in inr ((command, asks, fault.0), fault.1)
+
+  pub network_fault_fact : Way run status rig → status ≡ 11 → AsksFor uses_door run.words × Rose run.door.faults run.door.faults_after
+  network_fault_fact (usage is none line) at = absurd (omega arith)
+  network_fault_fact (no_usage is quiet) at = absurd (omega arith)
+  network_fault_fact (stops command asks reads (no_harness_read is rose line)) at = absurd (omega arith)
+  network_fault_fact (stops command asks reads (no_harness is refusal refuses line)) at = absurd (omega arith)
+  network_fault_fact (stops command asks reads (no_wires_read is wired sim takes rose line)) at = absurd (omega arith)
+  network_fault_fact (stops command asks reads (no_wires is wired sim takes refusal refuses line)) at = absurd (omega arith)
+  network_fault_fact (stops command asks reads (other_points is wired sim takes p read other line)) at = absurd (omega arith)
+  network_fault_fact (stops command asks reads (no_memory is quiet)) at = absurd (omega arith)
+  network_fault_fact (works command asks given takes work frame) at = let fault = frame.network_fault at in ((command, asks, fault.0), fault.1)
 
   pub no_memory_fact : Way run status rig → status ≡ 9 → (AsksFor uses_disk run.words → ⊥) → CountsNone run.sunk
   no_memory_fact (usage is none line) at no_one = absurd (omega arith)
@@ -246,6 +258,15 @@ module _ (run : Run) where
   clock_unused_fact status rig (obeyed command asks unused given takes work) no_one = elim (bool_cases (uses_clock command)) [
     | inl uses ↦ absurd (no_one (command, asks, uses))
     | inr alone ↦ unused.clock alone
+  ]
+
+  pub door_unused_fact : (status : ℕ) (rig : Option SimState) → Ends run status rig → (AsksFor uses_door run.words → ⊥) → IsShut run.door
+  door_unused_fact status rig (no_command none unread alone unused line) no_one = unused.door refl
+  door_unused_fact status rig (words_memory unread alone unused unasked) no_one = unused.door refl
+  door_unused_fact status rig (stopped command asks reads unused stop) no_one = unused.door refl
+  door_unused_fact status rig (obeyed command asks unused given takes work) no_one = elim (bool_cases (uses_door command)) [
+    | inl uses ↦ absurd (no_one (command, asks, uses))
+    | inr alone ↦ unused.door alone
   ]
 
   abbrev HarnessFront : Type 0

@@ -4,6 +4,11 @@ pub mod UnitWays
 pub mod SeatedLemmas
 pub mod FileWays
 pub mod Framed
+pub mod StationFrames
+pub mod ImportFrame
+pub mod ServeFrame
+pub mod ServeWork
+pub mod ReportFrame
 pub mod Framing
 pub mod Obeying
 pub mod RunWays
@@ -12,5 +17,8 @@ pub mod UnitFacts
 pub mod CheckFacts
 pub mod LearnFacts
 pub mod ScriptFacts
+pub mod ImportFacts
+pub mod ServeFacts
+pub mod ReportFacts
 pub mod SoakFacts
 pub mod IsRunFacts

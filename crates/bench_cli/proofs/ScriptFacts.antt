@@ -1,5 +1,5 @@
 -- What the run of a script promises.
-use Rattle.std.proofs.Common.{◌≡◌, ◌⊎◌, inl, inr, ℕ, false, List, Option, None, Some, refl, ◌∙◌, ap, subst}
+use Rattle.std.proofs.Common.{◌≡◌, ◌⊎◌, inl, inr, ℕ, List, Option, None, Some, refl, ◌∙◌, ap, subst}
 use Rattle.harness.specs.declared.row.HarnessRow.{HarnessRow}
 use Rattle.harness.specs.Units.{units_of}
 use Rattle.rig.specs.RigState.{RigState}
@@ -10,7 +10,7 @@ use Rattle.words.specs.declared.command.Command.{Command}
 use Rattle.words.specs.declared.command.Command.TheVariants.{Run as RunScript}
 use Rattle.words.specs.Words.{Asks}
 use Rattle.words.proofs.OneReading.{one_reading}
-use Rattle.bench_cli.specs.Run.{Run, Given, nothing, simulator, both, TakesFiles, TakesBoth, StopsAtFiles, LeavesUnused}
+use Rattle.bench_cli.specs.Run.{Run, Given, nothing, simulator, both, TakesFiles, TakesBoth, StopsAtFiles, LeavesAll}
 use Rattle.bench_cli.specs.Commands.{reads_wires}
 use Rattle.bench_cli.specs.Told.{FailedRead, HarnessInForm, WiresInForm}
 use Rattle.bench_cli.specs.Ends.{Ends}
@@ -21,7 +21,7 @@ use Rattle.bench_cli.proofs.FileWays.{harness_told, program_told, taken_points}
 use Rattle.bench_cli.proofs.RunWays.{Way, reached}
 
 -- what a new simulator tells of each unit
-told_new : (rows : List HarnessRow) (p : Program) (sim : SimState) → IsNew rows sim → told_by p sim.state ≡ Some (found_in (units_of rows) p)
+pub told_new : (rows : List HarnessRow) (p : Program) (sim : SimState) → IsNew rows sim → told_by p sim.state ≡ Some (found_in (units_of rows) p)
 told_new rows p sim new = ap (λ (s : RigState). told_by p s) new.state
 
 has_run : (rows : List HarnessRow) (p : Program) (run : Run) (status : ℕ) (sim : SimState) (final : RigState) → IsNew rows sim → Opened p run status sim.state final → HasRun rows p run status final
@@ -66,7 +66,7 @@ module _ (run : Run) (status : ℕ) where
   came_by rig command is given takes work = ran rig given takes (subst (λ (c : Command). Works c given run status rig) is work)
 
 module _ (run : Run) where
-  came_fact : (status : ℕ) (rig : Option SimState) → Asks run.words RunScript → Ends run status rig → ((status ≡ 9) × LeavesUnused false false false run) ⊎ (EndsAtFiles run status rig ⊎ RanOnFiles run status rig)
+  came_fact : (status : ℕ) (rig : Option SimState) → Asks run.words RunScript → Ends run status rig → ((status ≡ 9) × LeavesAll run) ⊎ (EndsAtFiles run status rig ⊎ RanOnFiles run status rig)
   came_fact status rig asks (no_command none unread alone unused line) = absurd (none (RunScript, asks))
   came_fact status rig asks (no_memory unread alone unused unasked) = inl (refl, unused)
   came_fact status rig asks (stopped command also reads unused stop) =

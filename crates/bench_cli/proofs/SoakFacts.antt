@@ -12,7 +12,7 @@ use Rattle.wirelist.specs.declared.outcome.Outcome.TheVariants as outcome
 use Rattle.soak_pair.specs.Pair.{soak_line, verdicts_line, good_outcome, bad_outcome}
 use Rattle.soak_pair.proofs.SoakUnits.{no_faults}
 use Rattle.soak.specs.declared.run.SoakStop.TheVariants as stop
-use Rattle.soak.specs.Soaked.{IsOfPair, IsSoaked, StopsSoak, EndsInOrder}
+use Rattle.soak.specs.Soaked.{IsOfPair, IsSoaked, StopsSoak, EndsInOrder, EndsStuck}
 use Rattle.words.specs.declared.command.Command.TheVariants.{Soak}
 use Rattle.words.specs.declared.command.Command.{Command}
 use Rattle.words.specs.Words.{Asks}
@@ -63,11 +63,14 @@ module _ (n : ℕ) (sunk : Sunk) where
   fault_by status rig (not_at_zero sim stops line) by = (sim, refl, stops.1)
   fault_by status rig (no_memory held stops unasked) by = elim by [ inl e ↦ absurd (omega (arith, e)) | inr e ↦ absurd (omega (arith, e)) ]
 
-  order_by : (status : ℕ) (rig : Option SimState) → SoakEnds n sunk status rig → (sim : SimState) → rig ≡ Some sim → (status ≡ 10) ⊎ (IsSoaked n sim.state ⊎ EndsInOrder n sim.state)
-  order_by status rig (soaked sim is prints) other out = let same : sim ≡ other = cc in inr (inl (subst (λ (s : SimState). IsSoaked n s.state) same is))
-  order_by status rig (rig_failed sim stops line) other out = let same : sim ≡ other = cc in inr (inr (subst (λ (s : SimState). EndsInOrder n s.state) same stops.2))
-  order_by status rig (not_at_zero sim stops line) other out = inl refl
-  order_by status rig (no_memory held stops unasked) other out = inr (inr (handed held stops other out))
+  order_by : (status : ℕ) (rig : Option SimState) → SoakEnds n sunk status rig → (sim : SimState) → rig ≡ Some sim
+      → IsSoaked n sim.state ⊎ (EndsInOrder n sim.state ⊎ ((status ≡ 10) × EndsStuck n sim.state))
+  order_by status rig (soaked sim is prints) other out = let same : sim ≡ other = cc in inl (subst (λ (s : SimState). IsSoaked n s.state) same is)
+  order_by status rig (rig_failed sim stops line) other out = let same : sim ≡ other = cc in inr (inl (subst (λ (s : SimState). EndsInOrder n s.state) same stops.2))
+  order_by status rig (not_at_zero sim stops line) other out =
+      let same : sim ≡ other = cc in
+      inr (inr (refl, subst (λ (s : SimState). EndsStuck n s.state) same stops.2))
+  order_by status rig (no_memory held stops unasked) other out = inr (inl (handed held stops other out))
     where
       handed : (held : Option SimState) → StopsSoak n (stop.Memory held) → (other : SimState) → held ≡ Some other → EndsInOrder n other.state
       handed None stops other out = cc

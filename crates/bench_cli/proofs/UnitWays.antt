@@ -83,13 +83,13 @@ module _ {Finds : RigState → RigState → List ℕ → Type 0} {Stops : RigSta
   at_fault (memory is quiet) at = absurd (omega arith)
 
   -- files and words have other statuses
-  pub at_work : UnitWay Finds Stops old final serial attempt sunk status → (status ≢ 2) × (status ≢ 3) × (status ≢ 4) × (status ≢ 6) × (status ≢ 13)
-  at_work (done is middle text seats finds wrote) = (λ e. omega arith, λ e. omega arith, λ e. omega arith, λ e. omega arith, λ e. omega arith)
-  at_work (cut is middle text seats finds rose wrote) = (λ e. omega arith, λ e. omega arith, λ e. omega arith, λ e. omega arith, λ e. omega arith)
-  at_work (absent is seats line) = (λ e. omega arith, λ e. omega arith, λ e. omega arith, λ e. omega arith, λ e. omega arith)
-  at_work (no_seat is seats line) = (λ e. omega arith, λ e. omega arith, λ e. omega arith, λ e. omega arith, λ e. omega arith)
-  at_work (no_reading is middle seats reads stops line) = (λ e. omega arith, λ e. omega arith, λ e. omega arith, λ e. omega arith, λ e. omega arith)
-  at_work (memory is quiet) = (λ e. omega arith, λ e. omega arith, λ e. omega arith, λ e. omega arith, λ e. omega arith)
+  pub at_work : UnitWay Finds Stops old final serial attempt sunk status → (status ≢ 2) × (status ≢ 3) × (status ≢ 4) × (status ≢ 6) × (status ≢ 13) × (status ≢ 11)
+  at_work (done is middle text seats finds wrote) = (λ e. omega arith, λ e. omega arith, λ e. omega arith, λ e. omega arith, λ e. omega arith, λ e. omega arith)
+  at_work (cut is middle text seats finds rose wrote) = (λ e. omega arith, λ e. omega arith, λ e. omega arith, λ e. omega arith, λ e. omega arith, λ e. omega arith)
+  at_work (absent is seats line) = (λ e. omega arith, λ e. omega arith, λ e. omega arith, λ e. omega arith, λ e. omega arith, λ e. omega arith)
+  at_work (no_seat is seats line) = (λ e. omega arith, λ e. omega arith, λ e. omega arith, λ e. omega arith, λ e. omega arith, λ e. omega arith)
+  at_work (no_reading is middle seats reads stops line) = (λ e. omega arith, λ e. omega arith, λ e. omega arith, λ e. omega arith, λ e. omega arith, λ e. omega arith)
+  at_work (memory is quiet) = (λ e. omega arith, λ e. omega arith, λ e. omega arith, λ e. omega arith, λ e. omega arith, λ e. omega arith)
 
   -- want of memory comes with no failed write
   pub at_memory : UnitWay Finds Stops old final serial attempt sunk status → status ≡ 9 → CountsNone sunk

@@ -10,6 +10,9 @@ pub mod UnitWork
 pub mod Checking
 pub mod Learning
 pub mod Scripting
+pub mod Reporting
+pub mod Importing
+pub mod Serving
 pub mod Soaking
 pub mod Works
 pub mod Ends

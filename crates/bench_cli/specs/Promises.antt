@@ -1,6 +1,7 @@
 -- What a run of the program promises, of its words, the bytes that its sources had left, what its sink got, its disk, its status and the
 -- rig that it hands out.
 use Rattle.std.specs.Prelude.{◌≡◌, ◌≢◌, ◌⊎◌, ℕ, true, List, Option, None, Some}
+use Rattle.base.specs.Causes.{Rose}
 use Rattle.bench_edge.specs.Whole.{LostFront}
 use Rattle.harness.specs.declared.row.HarnessRow.{HarnessRow}
 use Rattle.harness.specs.declared.refusal.HarnessRefusal.{HarnessRefusal}
@@ -11,9 +12,9 @@ use Rattle.wirelist.specs.declared.program.Program.{Program}
 use Rattle.wirelist.specs.declared.refusal.WireRefusal.{WireRefusal}
 use Rattle.words.specs.declared.command.Command.{Command}
 use Rattle.words.specs.Words.{Asks, IsCommand}
-use Rattle.bench_cli.specs.Commands.{AsksFor, reads_harness, reads_wires, reads_input, uses_disk, uses_clock}
+use Rattle.bench_cli.specs.Commands.{AsksFor, reads_harness, reads_wires, reads_input, uses_disk, uses_clock, uses_door}
 use Rattle.bench_cli.specs.Closing.{Closes, CountsNone, usage_line, read_fault_line}
-use Rattle.bench_cli.specs.Run.{Run, IsUnread, most_of_harness, most_of_wires, refusal_line}
+use Rattle.bench_cli.specs.Run.{Run, IsUnread, IsShut, most_of_harness, most_of_wires, refusal_line}
 use Rattle.bench_cli.specs.Told.{TellsHarness, TellsWires, Failed, HasRows, HasRefusal, HasProgram, HasFault, FailedHarness, FailedRead, Is}
 use Rattle.bench_cli.specs.Wires.{IsWirelist, first_refusal, wires_refusal_line, points_differ_line}
 use Rattle.bench_cli.specs.Ends.{Ends}
@@ -41,9 +42,10 @@ pub record IsRun (run : Run) (status : ℕ) (rig : Option SimState) : Type 0 whe
   pub input_unread : (AsksFor reads_input run.words → ⊥) → IsUnread run.input
   pub harness_front : LostFront run.files.harness.left run.files.harness.left_after most_of_harness
   pub wires_front : LostFront run.files.wires.left run.files.wires.left_after most_of_wires
-  -- a disk and a clock that are not asked for are left as they were
+  -- a disk, a clock and a door that are not asked for are left as they were
   pub disk_unused : (AsksFor uses_disk run.words → ⊥) → run.disk_after ≡ run.disk
   pub clock_unused : (AsksFor uses_clock run.words → ⊥) → run.moments_after ≡ run.moments
+  pub door_unused : (AsksFor uses_door run.words → ⊥) → IsShut run.door
   -- 3 exactly where the harness file is asked for and refused; the line says why
   pub harness_refused : status ≡ 3 → AsksFor reads_harness run.words
       × (refusal : HarnessRefusal) × HasRefusal run.files refusal × Closes run.sunk (refusal_line refusal)
@@ -63,6 +65,8 @@ pub record IsRun (run : Run) (status : ℕ) (rig : Option SimState) : Type 0 whe
       → p.nets.points ≢ points_in rows → Is 13 status ⊎ FailedRead run.files status
   -- 6 only where a read failed of a source that the command reads
   pub read_fault : status ≡ 6 → IsReadFault run
+  -- 11 only where the door failed of a command that uses it
+  pub network_fault : status ≡ 11 → AsksFor uses_door run.words × Rose run.door.faults run.door.faults_after
   -- 9 in place of no failed write, but of a command that uses the disk
   pub no_memory : status ≡ 9 → (AsksFor uses_disk run.words → ⊥) → CountsNone run.sunk
   -- of a command that reads the harness file, the rig is handed out exactly where that was read, and no mounting was refused

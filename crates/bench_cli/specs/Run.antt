@@ -1,12 +1,14 @@
 -- What a run is given, and what its sources, its sink, its disk and its clock are after it.
 --     read_by left faults s t    what a source s that became t had left and how often it had failed, by its two meanings
---     Run                        the words, what was read and written, and the disk and the clock, where they tell, before and after
+--     door_by waiting done faults m n    what a door m that became n had to come and had done, and how often it had failed
+--     Run                        the words, what was read and written, and the disk, the clock and the door, where they tell, before and after
 --     TakesFiles files given     the files that a command reads are in form, and give this
 --     StopsAtFiles               the ways in which a run ends where one of them gives nothing
 use Rattle.std.specs.Prelude.{◌≡◌, ◌≢◌, ◌++◌, [], ℕ, Bool, true, false, List, Option, None, Some, codes, decimal, unwrap_or}
 use Rattle.base.specs.Causes.{Rose}
 use Rattle.bench_edge.specs.Whole.{TookFirst, LostFront}
 use Rattle.disk_edge.specs.Disk.{DiskState}
+use Rattle.door_edge.specs.Doors.{Talk}
 use Rattle.harness.specs.declared.row.HarnessRow.{HarnessRow}
 use Rattle.harness.specs.declared.refusal.HarnessRefusal.{HarnessRefusal}
 use Rattle.harness.specs.Refusals.{number_of, line_of}
@@ -27,6 +29,19 @@ pub record Read : Type 0 where
 abbrev pub read_by : {S : Type 0} → (S → Option (List ℕ)) → (S → ℕ) → S → S → Read
 read_by left faults old new = record { left = left old; left_after = left new; faults = faults old; faults_after = faults new }
 
+-- the connections that a door has to come and has done, and its count of failed calls, before and after
+pub record Doorway : Type 0 where
+  pub waiting : Option (List (List ℕ))
+  pub waiting_after : Option (List (List ℕ))
+  pub done : Option (List Talk)
+  pub done_after : Option (List Talk)
+  pub faults : ℕ
+  pub faults_after : ℕ
+
+abbrev pub door_by : {N : Type 0} → (N → Option (List (List ℕ))) → (N → Option (List Talk)) → (N → ℕ) → N → N → Doorway
+door_by waiting done faults old new =
+    record { waiting = waiting old; waiting_after = waiting new; done = done old; done_after = done new; faults = faults old; faults_after = faults new }
+
 -- the two files
 pub record Files : Type 0 where
   pub harness : Read
@@ -41,6 +56,7 @@ pub record Run : Type 0 where
   pub disk_after : DiskState
   pub moments : Option (List ℕ)
   pub moments_after : Option (List ℕ)
+  pub door : Doorway
 
 -- how many bytes of each file are read at most: one more than it may have
 abbrev pub most_of_harness : ℕ
@@ -93,11 +109,22 @@ pub record IsUnread (read : Read) : Type 0 where
   pub left : read.left_after ≡ read.left
   pub faults : read.faults_after ≡ read.faults
 
+-- the door was not asked
+pub record IsShut (door : Doorway) : Type 0 where
+  pub waiting : door.waiting_after ≡ door.waiting
+  pub done : door.done_after ≡ door.done
+  pub faults : door.faults_after ≡ door.faults
+
 -- what a command does not use is left as it was
-pub record LeavesUnused (reads_input uses_disk uses_clock : Bool) (run : Run) : Type 0 where
+pub record LeavesUnused (reads_input uses_disk uses_clock uses_door : Bool) (run : Run) : Type 0 where
   pub input : reads_input ≡ false → IsUnread run.input
   pub disk : uses_disk ≡ false → run.disk_after ≡ run.disk
   pub clock : uses_clock ≡ false → run.moments_after ≡ run.moments
+  pub door : uses_door ≡ false → IsShut run.door
+
+-- input, disk, clock and door are left as they were
+abbrev pub LeavesAll : Run → Type 0
+LeavesAll run = LeavesUnused false false false false run
 
 -- what the files that a command reads give: nothing where it reads none, the simulator of a harness, or that and a program
 pub data Given : Type 0 where

@@ -1,7 +1,7 @@
 -- `run`: the journal is opened, and the commands of the script are answered line by line.
 --     RunsScript given ..        how its own work ends
 --     IsScripting run ..         what it promises: the headline is `headline` of HasRun
-use Rattle.std.specs.Prelude.{◌≡◌, ◌⊎◌, ℕ, true, false, List, Option, Some, MatchOption}
+use Rattle.std.specs.Prelude.{◌≡◌, ◌⊎◌, ℕ, true, List, Option, Some, MatchOption}
 use Rattle.rig.specs.RigState.{RigState}
 use Rattle.harness.specs.declared.row.HarnessRow.{HarnessRow}
 use Rattle.harness.specs.Places.{points_in}
@@ -13,7 +13,7 @@ use Rattle.unit_outcome.specs.Found.{found_in}
 use Rattle.ledger.specs.Opening.{BeginsSound, Says, found}
 use Rattle.script.specs.Causes.{Counts, Causes, Completes}
 use Rattle.script.specs.Opened.{RunOpened, RunRefused, RunHeadline}
-use Rattle.bench_cli.specs.Run.{Run, Given, nothing, simulator, both, StopsAtFiles, LeavesUnused}
+use Rattle.bench_cli.specs.Run.{Run, Given, nothing, simulator, both, StopsAtFiles, LeavesAll}
 use Rattle.bench_cli.specs.Told.{HasRows, HasProgram, FailedRead, HarnessInForm, WiresInForm}
 
 -- how often a read of the input, a write of the output, the disk and the rig failed
@@ -75,11 +75,11 @@ pub record RanOnFiles (run : Run) (status : ℕ) (rig : Option SimState) : Type 
 -- one of the files gave nothing; input, disk and clock were left as they were
 pub record EndsAtFiles (run : Run) (status : ℕ) (rig : Option SimState) : Type 0 where
   pub stops : StopsAtFiles true run.files run.sunk status rig
-  pub unused : LeavesUnused false false false run
+  pub unused : LeavesAll run
 
 pub record IsScripting (run : Run) (status : ℕ) (rig : Option SimState) : Type 0 where
   -- memory ran out before anything was read, or the run ended at one of the files, or the journal was opened or refused
-  pub came : ((status ≡ 9) × LeavesUnused false false false run) ⊎ (EndsAtFiles run status rig ⊎ RanOnFiles run status rig)
+  pub came : ((status ≡ 9) × LeavesAll run) ⊎ (EndsAtFiles run status rig ⊎ RanOnFiles run status rig)
   -- it came to the journal where both files are in form, unless a read of them failed or memory ran out
   pub reaches : (rows : List HarnessRow) → HarnessInForm run.files rows → WiresInForm run.files rows
       → RanOnFiles run status rig ⊎ ((status ≡ 9) ⊎ FailedRead run.files status)

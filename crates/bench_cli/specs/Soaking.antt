@@ -6,7 +6,7 @@ use Rattle.base.specs.Causes.{Rose}
 use Rattle.rig.specs.Happened.{IsBelowLast}
 use Rattle.rig_sim.specs.SimRig.{SimState}
 use Rattle.soak_pair.specs.Pair.{soak_line}
-use Rattle.soak.specs.Soaked.{IsSoaked, StopsSoak, EndsInOrder}
+use Rattle.soak.specs.Soaked.{IsSoaked, StopsSoak, EndsInOrder, EndsStuck}
 use Rattle.soak.specs.declared.run.SoakStop.TheVariants as stop
 use Rattle.bench_cli.specs.Closing.{Sunk, Wrote, WroteSome, Closes, ClosesWith, IsUnasked, LacksMemory, rig_fault_line}
 use Rattle.bench_cli.specs.UnitEnds.{PrintEnds}
@@ -41,8 +41,8 @@ pub record IsSoaking (n : ℕ) (run : Run) (status : ℕ) (rig : Option SimState
       × Rose run.sunk.faults run.sunk.faults_after × WroteSome run.sunk (soak_line n)
   -- 15 and 10 only where the rig counted a fault, of which there were none
   pub rig_fault : (status ≡ 15) ⊎ (status ≡ 10) → (sim : SimState) × (rig ≡ Some sim) × (0 < sim.state.faults)
-  -- the trail of the rig is in the order of high voltage, and ended at zero, but with 10
-  pub in_order : (sim : SimState) → rig ≡ Some sim → (status ≡ 10) ⊎ (IsSoaked n sim.state ⊎ EndsInOrder n sim.state)
+  -- the trail of the rig is in the order of high voltage, and ended at zero, or with 10 after three zero calls that failed
+  pub in_order : (sim : SimState) → rig ≡ Some sim → IsSoaked n sim.state ⊎ (EndsInOrder n sim.state ⊎ ((status ≡ 10) × EndsStuck n sim.state))
   -- without a failed write, and with counts of the rig that can still rise, the line is written, unless memory runs out
   pub complete : (Rose run.sunk.faults run.sunk.faults_after → ⊥)
       → ((sim : SimState) → rig ≡ Some sim → IsBelowLast sim.state.spent × IsBelowLast sim.state.seats) → Is 0 status

@@ -3,7 +3,7 @@
 ghost use Rattle.std.specs.Prelude.{◌≡◌, ℕ, List};
 ghost use Rattle.words.specs.Words.{Asks};
 ghost use Rattle.bench_cli.specs.Closing.{sunk_by};
-ghost use Rattle.bench_cli.specs.Run.{read_by};
+ghost use Rattle.bench_cli.specs.Run.{Doorway, IsShut, read_by};
 ghost use Rattle.bench_cli.specs.Ends.{Ends};
 
 use crate::Ended;
@@ -24,7 +24,7 @@ pub fn run_station<H: Source, W: Source, I: Source, O: Sink, D: Disk, C: Clock>(
     disk: D,
     clock: &mut C,
 ) -> Ended<D>
-    ensures { (words : List (List ℕ)) → Asks words Command.Run → Ends (record {
+    ensures { (words : List (List ℕ)) (door : Doorway) → Asks words Command.Run → IsShut door → Ends (record {
       words = words;
       files = record {
         harness = read_by H.left H.read_faults harness.old harness.new;
@@ -36,6 +36,7 @@ pub fn run_station<H: Source, W: Source, I: Source, O: Sink, D: Disk, C: Clock>(
       disk_after = D.state result.disk;
       moments = C.moments clock.old;
       moments_after = C.moments clock.new;
+      door = door;
     }) result.status result.rig }
 {
     match take_both(alloc, harness, wires, out) {

@@ -4,6 +4,7 @@ use crate::{Ended, bench};
 use base::{Bytes, Counts};
 use bench_edge::{MemClock, MemSink, MemSource};
 use disk_edge::MemDisk;
+use door_edge::{ConnList, MemDoor};
 use std::process::Abort;
 use std::test::Fail;
 
@@ -63,6 +64,11 @@ fn ran(
         Counts::from_slice(rt.alloc(), &[1])?,
     )?;
     let mut clock = MemClock::new(Counts::from_slice(rt.alloc(), &[])?);
+    let mut door = MemDoor::new(
+        rt.alloc(),
+        ConnList::new(rt.alloc()),
+        Counts::from_slice(rt.alloc(), &[1])?,
+    );
     let Ended {
         status,
         disk: _disk,
@@ -76,6 +82,7 @@ fn ran(
         &mut out,
         disk,
         &mut clock,
+        &mut door,
     );
     Ok((status, Bytes::from_slice(rt.alloc(), out.bytes())?))
 }

@@ -3,19 +3,24 @@
 ghost use Rattle.std.specs.Prelude.{◌≡◌, ℕ, List, map, string_bytes};
 ghost use Rattle.words.specs.Words.{Asks};
 ghost use Rattle.bench_cli.specs.Closing.{sunk_by};
-ghost use Rattle.bench_cli.specs.Run.{Read, read_by};
+ghost use Rattle.bench_cli.specs.Run.{Read, read_by, door_by};
 ghost use Rattle.bench_cli.specs.Ends.{Ends};
 ghost use Rattle.bench_cli.specs.Promises.{IsRun};
 
 use crate::check::continuity;
 use crate::closing::{end_with_line, status};
 use crate::learning::learn_wiring;
+use crate::printing::print_report;
 use crate::scripting::run_station;
+use crate::serial_import::import_serials;
+use crate::service::serve_station;
 use crate::soaking::soak_units;
 use crate::taking::Outcome;
 use base::Memory;
 use bench_edge::{Clock, Sink, Source};
 use disk_edge::Disk;
+use door_edge::Door;
+use reporting::Report;
 use rig_sim::SimRig;
 use std::alloc::Global;
 use words::{Command, read_words};
@@ -32,7 +37,7 @@ pub struct Ended<D> {
 
 /// Does what the words ask: reads the files of the command, does its work and writes what was found, or why there is nothing to write.
 #[tactic(auto, using(crate::proofs::IsRunFacts::is_run))]
-pub fn bench<H: Source, W: Source, I: Source, O: Sink, D: Disk, C: Clock>(
+pub fn bench<H: Source, W: Source, I: Source, O: Sink, D: Disk, C: Clock, N: Door>(
     alloc: Global,
     words: &[String],
     harness: &mut H,
@@ -41,6 +46,7 @@ pub fn bench<H: Source, W: Source, I: Source, O: Sink, D: Disk, C: Clock>(
     out: &mut O,
     disk: D,
     clock: &mut C,
+    door: &mut N,
 ) -> Ended<D>
     ensures { IsRun (record {
       words = map string_bytes words.now;
@@ -54,13 +60,14 @@ pub fn bench<H: Source, W: Source, I: Source, O: Sink, D: Disk, C: Clock>(
       disk_after = D.state result.disk;
       moments = C.moments clock.old;
       moments_after = C.moments clock.new;
+      door = door_by N.waiting N.done N.door_faults door.old door.new;
     }) result.status result.rig }
 {
-    run(alloc, words, harness, wires, input, out, disk, clock)
+    run(alloc, words, harness, wires, input, out, disk, clock, door)
 }
 
 /// Reads the words, and ends in one of the ways of a run.
-fn run<H: Source, W: Source, I: Source, O: Sink, D: Disk, C: Clock>(
+fn run<H: Source, W: Source, I: Source, O: Sink, D: Disk, C: Clock, N: Door>(
     alloc: Global,
     words: &[String],
     harness: &mut H,
@@ -69,6 +76,7 @@ fn run<H: Source, W: Source, I: Source, O: Sink, D: Disk, C: Clock>(
     out: &mut O,
     disk: D,
     clock: &mut C,
+    door: &mut N,
 ) -> Ended<D>
     ensures { Ends (record {
       words = map string_bytes words.now;
@@ -82,10 +90,13 @@ fn run<H: Source, W: Source, I: Source, O: Sink, D: Disk, C: Clock>(
       disk_after = D.state result.disk;
       moments = C.moments clock.old;
       moments_after = C.moments clock.new;
+      door = door_by N.waiting N.done N.door_faults door.old door.new;
     }) result.status result.rig }
 {
     match read_words(alloc, words) {
-        Ok(Some(command)) => obey(alloc, &command, harness, wires, input, out, disk, clock),
+        Ok(Some(command)) => obey(
+            alloc, &command, harness, wires, input, out, disk, clock, door,
+        ),
         Ok(None) => Ended {
             status: end_with_line(out, USAGE.as_bytes(), status::NO_COMMAND),
             disk,
@@ -100,7 +111,7 @@ fn run<H: Source, W: Source, I: Source, O: Sink, D: Disk, C: Clock>(
 }
 
 /// Does what the command asks. A new command has an arm here.
-fn obey<H: Source, W: Source, I: Source, O: Sink, D: Disk, C: Clock>(
+fn obey<H: Source, W: Source, I: Source, O: Sink, D: Disk, C: Clock, N: Door>(
     alloc: Global,
     command: &Command,
     harness: &mut H,
@@ -109,6 +120,7 @@ fn obey<H: Source, W: Source, I: Source, O: Sink, D: Disk, C: Clock>(
     out: &mut O,
     disk: D,
     clock: &mut C,
+    door: &mut N,
 ) -> Ended<D>
     requires { (words : List (List ℕ)) × Asks words command.now }
     ensures { (words : List (List ℕ)) → Asks words command.now → Ends (record {
@@ -123,6 +135,7 @@ fn obey<H: Source, W: Source, I: Source, O: Sink, D: Disk, C: Clock>(
       disk_after = D.state result.disk;
       moments = C.moments clock.old;
       moments_after = C.moments clock.new;
+      door = door_by N.waiting N.done N.door_faults door.old door.new;
     }) result.status result.rig }
 {
     match command {
@@ -135,6 +148,13 @@ fn obey<H: Source, W: Source, I: Source, O: Sink, D: Disk, C: Clock>(
             Ended { status, disk, rig }
         }
         Command::Run => run_station(alloc, harness, wires, input, out, disk, clock),
+        Command::Import => import_serials(alloc, harness, wires, input, out, disk, clock),
+        Command::Serve(service) => {
+            serve_station(alloc, service, harness, wires, out, disk, clock, door)
+        }
+        Command::Report => print_report(alloc, &Report::Lot, out, disk),
+        Command::Unit(serial) => print_report(alloc, &Report::Unit(*serial), out, disk),
+        Command::Export => print_report(alloc, &Report::Results, out, disk),
         Command::Soak(points) => {
             let Outcome { status, rig } = soak_units(alloc, *points, out);
             Ended { status, disk, rig }

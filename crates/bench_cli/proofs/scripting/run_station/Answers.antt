@@ -6,10 +6,11 @@ use Rattle.bench_cli.proofs.Obeying.{script_work}
 use Rattle.bench_cli.proofs.scripting.run_station.Goals as goal
 
 pub returns-in-Ok : goal.returns-in-Ok
-returns-in-Ok g c = λ words asks.
-    obeyed Run asks (record { input = λ e. cc; disk = λ e. cc; clock = λ e. cc }) (both c.in-Ok.field-0.sim c.in-Ok.field-0.p) c.in-Ok.ensures.takes
-    (script_work _ c.run-status.result.status c.in-Ok.field-0.sim c.in-Ok.field-0.p c.run-status.result.rig (rw c.in-Ok.ensures.alone at c.run-status.ensures.ends) (rw c.in-Ok.ensures.alone at c.run-status.ensures.causes) (rw c.in-Ok.ensures.alone at c.run-status.ensures.complete))
+returns-in-Ok g c = λ words door asks shut.
+    obeyed Run asks (record { input = λ e. cc; disk = λ e. cc; clock = λ e. cc; door = λ e. shut }) (both c.in-Ok.field-0.sim c.in-Ok.field-0.p) c.in-Ok.ensures.takes
+    (script_work _ c.run-status.result.status c.in-Ok.field-0.sim c.in-Ok.field-0.p c.run-status.result.rig (rw c.in-Ok.ensures.alone at c.run-status.ensures.ends)
+    (rw c.in-Ok.ensures.alone at c.run-status.ensures.causes) (rw c.in-Ok.ensures.alone at c.run-status.ensures.complete))
 
 pub returns-in-Err : goal.returns-in-Err
-returns-in-Err g c = λ words asks.
-    stopped Run asks refl (record { input = λ e. record { left = refl; faults = refl }; disk = λ e. refl; clock = λ e. refl }) c.in-Err.ensures.stops
+returns-in-Err g c = λ words door asks shut.
+    stopped Run asks refl (record { input = λ e. record { left = refl; faults = refl }; disk = λ e. refl; clock = λ e. refl; door = λ e. shut }) c.in-Err.ensures.stops
