@@ -7,6 +7,8 @@ mod bench;
 #[cfg(test)]
 mod files;
 #[cfg(test)]
+mod full;
+#[cfg(test)]
 mod rows;
 #[cfg(test)]
 mod stops;

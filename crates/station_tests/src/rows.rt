@@ -77,6 +77,41 @@ fn a_unit_is_answered_by_its_outcome(rt: HostRuntime) -> Result<(), Fail> {
 }
 
 #[test]
+fn one_point_passes_and_a_swap_is_two_miswires(rt: HostRuntime) -> Result<(), Fail> {
+    let alloc = rt.alloc();
+    let swap = b"\x01\0\0\0\0\0\x02\0\0\0\x02\0\x01\0\x01\0\x01\0\0\0\x01\0\x03\0".as_slice();
+    let rows = [
+        (
+            "points 1\nunit SN1 1\nend\n",
+            "part,P1,1\npoints,1\n",
+            "PASS",
+            b"\0\0".as_slice(),
+        ),
+        (
+            "points 5\nunit SN1 1\nwire 0 3\nwire 1 2\nend\n",
+            "part,P1,1\npoints,5\nnet,A,0,1\nnet,B,2,3\n",
+            "WIRING opens=0 shorts=0 miswires=2",
+            swap,
+        ),
+    ];
+    for (harness, wires, verdict, last) in rows {
+        let lines = format!(in alloc; "{ADDED}test S1 SN1\n")?;
+        let came = run(
+            alloc,
+            harness,
+            wires,
+            disk_of(alloc, b"", &[])?,
+            MAY,
+            lines.as_str(),
+        )?;
+        let said = format!(in alloc; "OK 1 A1\nOK 2 N1\nOK 3 S1 {verdict}\n")?;
+        assert_eq!(rt; came.said.as_str(), said.as_str());
+        assert!(rt; came.disk.bytes().ends_with(last), "{verdict}");
+    }
+    Ok(())
+}
+
+#[test]
 fn doors_and_faults_are_told(rt: HostRuntime) -> Result<(), Fail> {
     let alloc = rt.alloc();
     let rows = [
