@@ -10,8 +10,10 @@
 //!   answer, or of the closing line. With 0 and 12 all command lines are answered, with 6 those whose LF was read; with 10 the last
 //!   command's three zero calls failed.
 //! - Stopped at any moment, within any write too, a crash leaves what it might have left before, or a sound file that keeps the
-//!   records found and a front of those that were added. At the exit it keeps the records of the lines that were answered, or those
-//!   and the next; with 0, 6, 10 and 12 the former alone. No file grows longer than a journal may be.
+//!   records found and a front of those that were added. At the exit it is sound too, and keeps the records of the lines that were
+//!   answered, or those and the next; with 0, 6, 10 and 12 the former alone. Sound is what the station's own writes make, wherever
+//!   they are stopped: each clause on what is left says it, as a field of `IsImageOf` (ledger's specs/Kept.antt). No file grows
+//!   longer than a journal may be.
 //! - Each recorded test states the outcome that the harness and the program give its unit, the last tally of its serial and attempt
 //!   counts enough for it, and the rig shows all that is said of the last. A command whose id some record has adds nothing.
 //! - 6, 7, 8 and 10 come only where the count of the input, the output, the disk or the rig rose; E20 and E21, and E16, no more often
