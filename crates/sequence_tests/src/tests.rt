@@ -1,9 +1,8 @@
 //! Units of a simulator's file.
 
-ghost use Rattle.std.specs.Prelude.{◌≡◌, ◌<◌, ◌≤◌, length, IfOk, IfSome};
+ghost use Rattle.std.specs.Prelude.{◌≡◌, IfOk, IfSome};
 ghost use Rattle.wirelist.specs.Programs.{IsProgram};
 
-use crate::list_rig::ListRig;
 use crate::words::{found, stopped};
 use rig::{Event, Rig, Tally};
 use rig_sim::SimRig;
@@ -385,52 +384,5 @@ fn a_cable_takes_its_applications(rt: HostRuntime) -> Result<(), Fail> {
         "each application of either test goes through 500 volts"
     );
     assert_eq!(rt; to_1500, 3);
-    Ok(())
-}
-
-/// The rig of a stop is let go.
-fn let_go<R: Rig + Drop>(stop: UnitStop<R>) -> &'static str {
-    match stop {
-        UnitStop::Empty(_rig)
-        | UnitStop::InterlockOpen(_rig)
-        | UnitStop::NotDischarged(_rig, _)
-        | UnitStop::RigFault(_rig)
-        | UnitStop::Memory(_rig) => "stopped",
-        UnitStop::NotZero(stuck) => {
-            let _rig = stuck.into_rig();
-            "stuck"
-        }
-    }
-}
-
-/// The test of a unit of a rig that answers its readings from a list.
-fn run_listed(alloc: Global, points: u16, answers: &[bool], wires: &str) -> Result<String, Fail>
-    requires some_point { 1 ≤ points }
-    requires some_answer { 0 < length answers.now }
-{
-    let p = program(alloc, wires)?;
-    let rig = ListRig::new(alloc, points, answers)?;
-    if rig.points() != p.nets.points() {
-        return Err("other points")?;
-    }
-    match tested(alloc, rig, &p, "SN1") {
-        Ok(UnitRun { rig: _rig, outcome }) => found(alloc, &outcome),
-        Err(stop) => Err(let_go(stop))?,
-    }
-}
-
-#[test]
-fn a_rig_that_lies_is_told_what_its_readings_determine(rt: HostRuntime) -> Result<(), Fail> {
-    let alloc = rt.alloc();
-    let all = run_listed(alloc, 4, &[true], "part,P1,1\npoints,4\n")?;
-    assert_eq!(rt; all.as_str(), "wiring short 0,0,1,2,3");
-    let none = run_listed(alloc, 5, &[false], NETS)?;
-    assert_eq!(rt; none.as_str(), "wiring open 0:1,1 open 1:3,3");
-    let other = run_listed(alloc, 2, &[false, true], "part,P1,1\npoints,2\nnet,A,0,1\n")?;
-    assert_eq!(rt;
-        other.as_str(),
-        "wiring",
-        "the two readings differ, and the last one decides"
-    );
     Ok(())
 }
