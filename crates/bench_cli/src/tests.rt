@@ -45,6 +45,65 @@ fn words_of(rt: &impl AllocGlobal, line: &str) -> Result<Vec<String>, Fail> {
     Ok(words)
 }
 
+/// All that a run is given but the disk and the door.
+#[derive(Drop)]
+struct Desk {
+    words: Vec<String>,
+    harness: MemSource,
+    wires: MemSource,
+    input: MemSource,
+    out: MemSink,
+    clock: MemClock,
+}
+
+fn desk_of(
+    rt: &impl AllocGlobal,
+    line: &str,
+    harness: &[u8],
+    wires: &[u8],
+    failing: Failing,
+) -> Result<Desk, Fail> {
+    Ok(Desk {
+        words: words_of(rt, line)?,
+        harness: source_of(rt, harness, failing.harness)?,
+        wires: source_of(rt, wires, failing.wires)?,
+        input: source_of(rt, b"", 1)?,
+        out: MemSink::new(rt.alloc(), Counts::from_slice(rt.alloc(), &[failing.sink])?),
+        clock: MemClock::new(Counts::new(rt.alloc())),
+    })
+}
+
+/// A disk and a door that fail at their first call.
+fn disk_of(rt: &impl AllocGlobal) -> Result<MemDisk, Fail> {
+    let failing = Counts::from_slice(rt.alloc(), &[1])?;
+    Ok(MemDisk::new(rt.alloc(), Bytes::new(rt.alloc()), failing)?)
+}
+
+fn door_of(rt: &impl AllocGlobal) -> Result<MemDoor, Fail> {
+    let failing = Counts::from_slice(rt.alloc(), &[1])?;
+    Ok(MemDoor::new(rt.alloc(), ConnList::new(rt.alloc()), failing))
+}
+
+/// Does what the words ask; the disk and the rig are let go.
+fn call(rt: &impl AllocGlobal, desk: &mut Desk, disk: MemDisk, door: &mut MemDoor) -> u8 {
+    let Ended {
+        status,
+        disk: _disk,
+        rig: _rig,
+    } = bench(
+        rt.alloc(),
+        desk.words.as_slice(),
+        &mut desk.harness,
+        &mut desk.wires,
+        &mut desk.input,
+        &mut desk.out,
+        disk,
+        &mut desk.clock,
+        door,
+    );
+    status
+}
+
 /// The status of a run, and what it wrote.
 fn ran(
     rt: &impl AllocGlobal,
@@ -53,38 +112,12 @@ fn ran(
     wires: &[u8],
     failing: Failing,
 ) -> Result<(u8, Bytes), Fail> {
-    let words = words_of(rt, line)?;
-    let mut harness = source_of(rt, harness, failing.harness)?;
-    let mut wires = source_of(rt, wires, failing.wires)?;
-    let mut input = source_of(rt, b"", 1)?;
-    let mut out = MemSink::new(rt.alloc(), Counts::from_slice(rt.alloc(), &[failing.sink])?);
-    let disk = MemDisk::new(
-        rt.alloc(),
-        Bytes::new(rt.alloc()),
-        Counts::from_slice(rt.alloc(), &[1])?,
-    )?;
-    let mut clock = MemClock::new(Counts::from_slice(rt.alloc(), &[])?);
-    let mut door = MemDoor::new(
-        rt.alloc(),
-        ConnList::new(rt.alloc()),
-        Counts::from_slice(rt.alloc(), &[1])?,
-    );
-    let Ended {
-        status,
-        disk: _disk,
-        rig: _rig,
-    } = bench(
-        rt.alloc(),
-        words.as_slice(),
-        &mut harness,
-        &mut wires,
-        &mut input,
-        &mut out,
-        disk,
-        &mut clock,
-        &mut door,
-    );
-    Ok((status, Bytes::from_slice(rt.alloc(), out.bytes())?))
+    let mut desk = desk_of(rt, line, harness, wires, failing)?;
+    let mut door = door_of(rt)?;
+    let disk = disk_of(rt)?;
+    let status = call(rt, &mut desk, disk, &mut door);
+    let wrote = Bytes::from_slice(rt.alloc(), desk.out.bytes())?;
+    Ok((status, wrote))
 }
 
 /// The words of a run, its two files, its status and what it writes.
