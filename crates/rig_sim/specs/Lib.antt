@@ -4,3 +4,5 @@ pub mod Logs
 pub mod Fixture
 pub mod SimRig
 pub mod SimView
+pub mod ListRig
+pub mod ListView

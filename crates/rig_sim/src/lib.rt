@@ -1,4 +1,4 @@
-//! A rig without a device: the simulator reads as its file.
+//! Rigs without a device: the simulator, which reads as its file, and a rig that may lie.
 //!
 //! - [`SimRig::read`] takes a harness file. A file in form gives the rig of its rows: its points, its units with their rows, the
 //!   calls that fail and the interlock readings that are open (specs/SimRig.antt, `IsNew`). Every other file is refused as
@@ -13,15 +13,24 @@
 //!   fits 64 bits (`HasSmallConductance`).
 //! - The classes of joined points are made for a unit when it is seated, and for no other. A command to zero takes no memory:
 //!   its event goes into the room that a route or a raise has set aside.
+//! - [`ListRig`] is a [`rig::Rig`] that may lie, for tests of what is found of any rig. It has at least one point and at least one
+//!   answer, and tells the trail and the tallies alone. Every unit is there. Its k-th group reading gives the k-th answer of its
+//!   list, and after the last they begin anew; one that is refused for memory is not counted. No component, no leak and no charge
+//!   is found, and the interlock is closed (specs/ListRig.antt). A call fails only where a group reading or a seat finds its own
+//!   count at the last value.
 #![tactic(auto)]
 
 mod counter;
 mod fixture;
+mod flags;
+mod list_rig;
 mod log;
 mod meter;
 mod sim_rig;
 
+pub use flags::Flags;
 pub use harness::HarnessRefusal;
+pub use list_rig::ListRig;
 pub use sim_rig::SimRig;
 
 #[cfg(test)]

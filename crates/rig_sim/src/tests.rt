@@ -3,7 +3,7 @@
 ghost use Rattle.std.specs.Prelude.{IfSome};
 ghost use Rattle.rig.specs.Calls.{IsReady};
 
-use crate::{HarnessRefusal, SimRig};
+use crate::{Flags, HarnessRefusal, ListRig, SimRig};
 use partition::Point;
 use rig::{Rig, RigStop, SeatAnswer};
 use std::test::Fail;
@@ -20,9 +20,9 @@ fn seated(rt: &HostRuntime, bytes: &[u8]) -> Option<SimRig>
 }
 
 /// Whether two points are joined; None where they are no two points of the rig, or the call is refused.
-fn joined(rig: &mut SimRig, a: u16, b: u16) -> Option<bool>
-    requires { IsReady rig.old.state }
-    ensures { IsReady rig.new.state }
+fn joined<R: Rig>(rig: &mut R, a: u16, b: u16) -> Option<bool>
+    requires { IsReady (R.state rig.old) }
+    ensures { IsReady (R.state rig.new) }
 {
     if a == b || a >= rig.points() || b >= rig.points() {
         return None;
@@ -31,9 +31,9 @@ fn joined(rig: &mut SimRig, a: u16, b: u16) -> Option<bool>
 }
 
 /// The milliohms between two points; None where they are no points of the rig, or the call is refused.
-fn ohms(rig: &mut SimRig, a: u16, b: u16) -> Option<Option<u64>>
-    requires { IsReady rig.old.state }
-    ensures { IsReady rig.new.state }
+fn ohms<R: Rig>(rig: &mut R, a: u16, b: u16) -> Option<Option<u64>>
+    requires { IsReady (R.state rig.old) }
+    ensures { IsReady (R.state rig.new) }
 {
     if a >= rig.points() || b >= rig.points() {
         return None;
@@ -42,9 +42,9 @@ fn ohms(rig: &mut SimRig, a: u16, b: u16) -> Option<Option<u64>>
 }
 
 /// The millivolts from one point to another; None where they are no points of the rig, or the call is refused.
-fn junction(rig: &mut SimRig, from: u16, to: u16) -> Option<Option<u32>>
-    requires { IsReady rig.old.state }
-    ensures { IsReady rig.new.state }
+fn junction<R: Rig>(rig: &mut R, from: u16, to: u16) -> Option<Option<u32>>
+    requires { IsReady (R.state rig.old) }
+    ensures { IsReady (R.state rig.new) }
 {
     if from >= rig.points() || to >= rig.points() {
         return None;
@@ -134,5 +134,53 @@ fn a_file_out_of_form_is_refused(rt: HostRuntime) -> Result<(), Fail> {
         SimRig::read(rt.alloc(), file).err(),
         Some(HarnessRefusal::SecondElement(4))
     );
+    Ok(())
+}
+
+/// A rig of two points that answers no, yes and yes in turn, with a unit seated.
+fn listed(rt: &HostRuntime) -> Option<ListRig>
+    ensures { IfSome result (λ rig. IsReady rig.state) }
+{
+    let mut answers = Flags::from_slice(rt.alloc(), &[false, true]).ok()?;
+    answers.push(true).ok()?;
+    let mut rig = ListRig::new(rt.alloc(), 2, answers);
+    let Ok(SeatAnswer::Present) = rig.seat("SN7", 1) else {
+        return None;
+    };
+    Some(rig)
+}
+
+#[test]
+fn a_rig_by_a_list_answers_in_turn_and_begins_anew(rt: HostRuntime) -> Result<(), Fail> {
+    let mut rig = listed(&rt).ok_or("refused")?;
+    let answers = (
+        joined(&mut rig, 0, 1),
+        joined(&mut rig, 0, 1),
+        joined(&mut rig, 1, 0),
+        joined(&mut rig, 0, 1),
+        joined(&mut rig, 0, 1),
+    );
+    let turn = (Some(false), Some(true), Some(true), Some(false), Some(true));
+    assert_eq!(rt; answers, turn);
+    assert_eq!(rt; ohms(&mut rig, 0, 1), Some(None));
+    assert_eq!(rt; junction(&mut rig, 0, 1), Some(None));
+    assert_eq!(rt; rig.interlock(), Ok(true));
+    assert_eq!(rt; rig.residual(), Ok(0));
+    assert_eq!(rt; rig.readings(), 5);
+    assert_eq!(rt; rig.events().len(), 9);
+    for tally in rig.tallies().as_slice() {
+        assert_eq!(rt; (tally.readings, tally.probes), (5, 2));
+    }
+    Ok(())
+}
+
+#[test]
+fn a_list_of_flags_keeps_what_it_is_given(rt: HostRuntime) -> Result<(), Fail> {
+    let mut flags = Flags::new(rt.alloc());
+    assert!(rt; flags.is_empty());
+    flags.push(true)?;
+    flags.push(false)?;
+    assert_eq!(rt; flags.len(), 2);
+    assert_eq!(rt; flags.as_slice(), [true, false].as_slice());
     Ok(())
 }
