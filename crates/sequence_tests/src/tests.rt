@@ -1,11 +1,11 @@
-//! Units of a simulator's file.
+//! Units of a simulator's file, and a rig that may lie.
 
 ghost use Rattle.std.specs.Prelude.{◌≡◌, IfOk, IfSome};
 ghost use Rattle.wirelist.specs.Programs.{IsProgram};
 
 use crate::words::{found, stopped};
 use rig::{Event, Rig, Tally};
-use rig_sim::SimRig;
+use rig_sim::{Flags, ListRig, SimRig};
 use sequence::run_unit;
 use std::alloc::Global;
 use std::test::Fail;
@@ -384,5 +384,76 @@ fn a_cable_takes_its_applications(rt: HostRuntime) -> Result<(), Fail> {
         "each application of either test goes through 500 volts"
     );
     assert_eq!(rt; to_1500, 3);
+    Ok(())
+}
+
+/// The rig of a stop is let go.
+fn let_go(stop: UnitStop<ListRig>) -> &'static str {
+    match stop {
+        UnitStop::Empty(_rig)
+        | UnitStop::InterlockOpen(_rig)
+        | UnitStop::NotDischarged(_rig, _)
+        | UnitStop::RigFault(_rig)
+        | UnitStop::Memory(_rig) => "stopped",
+        UnitStop::NotZero(stuck) => {
+            let _rig = stuck.into_rig();
+            "stuck"
+        }
+    }
+}
+
+/// The readings that were spent. The rig is let go.
+fn spent(rig: ListRig) -> u64 {
+    rig.readings()
+}
+
+/// An outcome in words, and the readings that were spent for it.
+fn listed_words(
+    alloc: Global,
+    answer: Result<UnitRun<ListRig>, UnitStop<ListRig>>,
+) -> Result<(String, u64), Fail> {
+    match answer {
+        Ok(UnitRun { rig, outcome }) => {
+            let readings = spent(rig);
+            Ok((found(alloc, &outcome)?, readings))
+        }
+        Err(stop) => Err(let_go(stop))?,
+    }
+}
+
+/// The test of a unit of a rig that answers its readings by a list and has the points of the wirelist.
+fn run_listed(alloc: Global, answers: &[bool], wires: &str) -> Result<(String, u64), Fail> {
+    let p = program(alloc, wires)?;
+    let points = p.nets.points();
+    let answers = Flags::from_slice(alloc, answers)?;
+    if points == 0 || answers.len() == 0 {
+        return Err("no rig")?;
+    }
+    let rig = ListRig::new(alloc, points, answers);
+    listed_words(alloc, tested(alloc, rig, &p, "SN1"))
+}
+
+#[test]
+fn a_rig_that_lies_gets_an_outcome_within_bounds(rt: HostRuntime) -> Result<(), Fail> {
+    let lists = [
+        (
+            [true].as_slice(),
+            "part,P1,1\npoints,4\n",
+            "wiring short 0,0,1,2,3",
+            13,
+        ),
+        ([false].as_slice(), NETS, "wiring open 0:1,1 open 1:3,3", 9),
+        (
+            [false, true].as_slice(),
+            "part,P1,1\npoints,2\nnet,A,0,1\n",
+            "wiring",
+            2,
+        ),
+    ];
+    for (answers, wires, words, most) in lists {
+        let (came, readings) = run_listed(rt.alloc(), answers, wires)?;
+        assert_eq!(rt; came.as_str(), words, "{wires}");
+        assert!(rt; readings <= most, "{wires}: {readings}");
+    }
     Ok(())
 }
