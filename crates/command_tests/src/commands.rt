@@ -1,6 +1,6 @@
 //! The commands one after another on one disk.
 
-use crate::desk::{AS_IT_READS, Came, NONE, ran};
+use crate::desk::{AS_IT_READS, Came, NONE, THREE, ran};
 use base::Bytes;
 use std::test::Fail;
 
@@ -64,9 +64,11 @@ fn each_command_answers_on_one_disk(rt: HostRuntime) -> Result<(), Fail> {
         let Came {
             status,
             text,
+            end: _end,
             image,
         } = ran(
             rt.alloc(),
+            THREE,
             line,
             input,
             journal.as_slice(),
@@ -87,7 +89,15 @@ const REFUSED: [&str; 5] = ["run", "import", "report", "export", "unit --serial 
 fn a_file_that_is_no_journal_is_refused(rt: HostRuntime) -> Result<(), Fail> {
     let refused = b"journal refused 1 0000000000000000\n".as_slice();
     for line in REFUSED {
-        let came = ran(rt.alloc(), line, "N1,SN1\n", &[0; 10], NONE, AS_IT_READS)?;
+        let came = ran(
+            rt.alloc(),
+            THREE,
+            line,
+            "N1,SN1\n",
+            &[0; 10],
+            NONE,
+            AS_IT_READS,
+        )?;
         assert_eq!(rt; came.status, 5, "{line}");
         assert_eq!(rt; came.text.as_slice(), refused, "{line}");
     }

@@ -1,5 +1,6 @@
 //! The program's files, disk, clock and door in memory.
 
+use crate::ending::{End, end_of};
 use base::{Bytes, Counts};
 use bench_cli::{Ended, bench};
 use bench_edge::{MemClock, MemSink, MemSource};
@@ -8,11 +9,26 @@ use door_edge::{ConnList, MemDoor};
 use std::alloc::Global;
 use std::test::Fail;
 
-/// A harness of three units: SN1 fails its first test and passes its second, SN2 and SN3 pass.
-const HARNESS: &str =
-    "points 5\nunit SN1 1\nwire 0 1\nunit SN1 2\nwire 0 1\nwire 2 3\nunit SN2 1\nwire 0 1\nwire 2 3\nunit SN3 1\nwire 0 1\nwire 2 3\nend\n";
+/// The two files that a command reads.
+#[derive(Clone, Copy)]
+pub struct Files<'a> {
+    pub harness: &'a str,
+    pub wires: &'a str,
+}
 
 const WIRES: &str = "part,P1,1\npoints,5\nnet,A,0,1\nnet,B,2,3\n";
+
+/// One unit, SN1, which passes.
+pub const ONE: Files<'static> = Files {
+    harness: "points 5\nunit SN1 1\nwire 0 1\nwire 2 3\nend\n",
+    wires: WIRES,
+};
+
+/// A harness of three units: SN1 fails its first test and passes its second, SN2 and SN3 pass.
+pub const THREE: Files<'static> = Files {
+    harness: "points 5\nunit SN1 1\nwire 0 1\nunit SN1 2\nwire 0 1\nwire 2 3\nunit SN2 1\nwire 0 1\nwire 2 3\nunit SN3 1\nwire 0 1\nwire 2 3\nend\n",
+    wires: WIRES,
+};
 
 /// The first of May 2024.
 const MAY: u64 = 1_714_521_600;
@@ -45,11 +61,12 @@ struct Desk {
     clock: MemClock,
 }
 
-/// What a command came to: its status, what it wrote, and a file that a crash at its end may leave.
+/// What a command came to: its status, what it wrote, how its rig was left, and a file that a crash at its end may leave.
 #[derive(Drop)]
 pub struct Came {
     pub status: u8,
     pub text: Bytes,
+    pub end: End,
     pub image: Bytes,
 }
 
@@ -73,11 +90,17 @@ fn words_of(alloc: Global, line: &str) -> Result<Vec<String>, Fail> {
     Ok(words)
 }
 
-fn desk_of(alloc: Global, line: &str, input: &str, failing: Failing) -> Result<Desk, Fail> {
+fn desk_of(
+    alloc: Global,
+    files: Files,
+    line: &str,
+    input: &str,
+    failing: Failing,
+) -> Result<Desk, Fail> {
     Ok(Desk {
         words: words_of(alloc, line)?,
-        harness: source_of(alloc, HARNESS, 0)?,
-        wires: source_of(alloc, WIRES, 0)?,
+        harness: source_of(alloc, files.harness, 0)?,
+        wires: source_of(alloc, files.wires, 0)?,
         input: source_of(alloc, input, failing.input)?,
         out: MemSink::new(alloc, Counts::from_slice(alloc, &[failing.out])?),
         clock: MemClock::new(Counts::from_slice(alloc, &[MAY])?),
@@ -85,12 +108,8 @@ fn desk_of(alloc: Global, line: &str, input: &str, failing: Failing) -> Result<D
 }
 
 /// Does what the words ask, on a disk and at a door.
-fn call(alloc: Global, desk: &mut Desk, disk: MemDisk, door: &mut MemDoor) -> (u8, MemDisk) {
-    let Ended {
-        status,
-        disk,
-        rig: _rig,
-    } = bench(
+fn call(alloc: Global, desk: &mut Desk, disk: MemDisk, door: &mut MemDoor) -> (u8, End, MemDisk) {
+    let Ended { status, disk, rig } = bench(
         alloc,
         desk.words.as_slice(),
         &mut desk.harness,
@@ -101,16 +120,24 @@ fn call(alloc: Global, desk: &mut Desk, disk: MemDisk, door: &mut MemDoor) -> (u
         &mut desk.clock,
         door,
     );
-    (status, disk)
+    (status, end_of(rig), disk)
 }
 
 /// What is left of a call, with the image of this pick.
-fn left(alloc: Global, status: u8, disk: MemDisk, out: &MemSink, pick: u8) -> Result<Came, Fail> {
+fn left(
+    alloc: Global,
+    status: u8,
+    end: End,
+    disk: MemDisk,
+    out: &MemSink,
+    pick: u8,
+) -> Result<Came, Fail> {
     let image = disk.image(pick)?;
     let text = Bytes::from_slice(alloc, out.bytes())?;
     Ok(Came {
         status,
         text,
+        end,
         image,
     })
 }
@@ -118,23 +145,35 @@ fn left(alloc: Global, status: u8, disk: MemDisk, out: &MemSink, pick: u8) -> Re
 /// Runs a command on a journal of these bytes. No connection waits.
 pub fn ran(
     alloc: Global,
+    files: Files,
     line: &str,
     input: &str,
     journal: &[u8],
     failing: Failing,
     pick: u8,
 ) -> Result<Came, Fail> {
-    let mut desk = desk_of(alloc, line, input, failing)?;
+    let mut desk = desk_of(alloc, files, line, input, failing)?;
     let disk = disk_of(alloc, journal, failing.disk)?;
     let mut door = MemDoor::new(alloc, ConnList::new(alloc), Counts::new(alloc));
-    let (status, disk) = call(alloc, &mut desk, disk, &mut door);
-    left(alloc, status, disk, &desk.out, pick)
+    let (status, end, disk) = call(alloc, &mut desk, disk, &mut door);
+    left(alloc, status, end, disk, &desk.out, pick)
 }
 
-/// Serves two connections on a journal of these bytes.
-pub fn served(alloc: Global, journal: &[u8], door: &mut MemDoor) -> Result<Came, Fail> {
-    let mut desk = desk_of(alloc, "serve --port 8080 --count 2", "", NONE)?;
+/// Runs a script on a journal of these bytes, where no call fails.
+pub fn answered(alloc: Global, files: Files, script: &str, journal: &[u8]) -> Result<Came, Fail> {
+    ran(alloc, files, "run", script, journal, NONE, AS_IT_READS)
+}
+
+/// Serves the connections that wait at a door, by a command of these words, on a journal of these bytes.
+pub fn served(
+    alloc: Global,
+    files: Files,
+    line: &str,
+    journal: &[u8],
+    door: &mut MemDoor,
+) -> Result<Came, Fail> {
+    let mut desk = desk_of(alloc, files, line, "", NONE)?;
     let disk = disk_of(alloc, journal, 0)?;
-    let (status, disk) = call(alloc, &mut desk, disk, door);
-    left(alloc, status, disk, &desk.out, AS_IT_READS)
+    let (status, end, disk) = call(alloc, &mut desk, disk, door);
+    left(alloc, status, end, disk, &desk.out, AS_IT_READS)
 }
