@@ -6,10 +6,6 @@ use std::alloc::Global;
 use std::process::Abort;
 use std::test::Fail;
 
-const WITHSTAND: &str = "withstand,50,1,1000\n";
-
-const INSULATION: &str = "insulation,50,1,100\n";
-
 /// The answers to the unit's tests, made one after another in one run, the status of a run that ends after any of them, and how it
 /// leaves the source.
 #[derive(Clone, Copy)]
@@ -59,35 +55,31 @@ const UNSEATS: Outcome = Outcome {
     end: End::Zero,
 };
 
-/// The test's row in the wirelist, the kind of the rows above the unit, the first and the last number that the first of these rows has
-/// in turn, the numbers left out, how many rows there are, each with the next number, and what comes of it.
-type Table = (
-    &'static str,
-    &'static str,
-    (u64, u64),
-    &'static [u64],
-    u64,
-    Outcome,
-);
+/// The kind of the rows above the unit, the first and the last number that the first of these rows has in turn, the numbers left out,
+/// how many rows there are, each with the next number, and what comes of it.
+type Table = (&'static str, (u64, u64), &'static [u64], u64, Outcome);
 
-const TABLES: [Table; 17] = [
-    (WITHSTAND, "fault", (1, 25), &[14, 24], 1, FAILS),
-    (WITHSTAND, "fault", (14, 14), &[], 1, PASSES),
-    (WITHSTAND, "fault", (24, 24), &[], 1, PASSES),
-    (WITHSTAND, "fault", (26, 26), &[], 1, PASSES),
-    (WITHSTAND, "fault", (14, 14), &[], 2, PASSES),
-    (WITHSTAND, "fault", (7, 13), &[], 4, STICKS),
-    (WITHSTAND, "fault", (14, 14), &[], 3, STICKS),
-    (WITHSTAND, "fault", (6, 6), &[], 4, UNSEATS),
-    (WITHSTAND, "door", (1, 4), &[], 1, OPENS),
-    (WITHSTAND, "door", (5, 5), &[], 1, PASSES),
-    (INSULATION, "fault", (1, 32), &[13, 22, 31], 1, FAILS),
-    (INSULATION, "fault", (13, 13), &[], 1, PASSES),
-    (INSULATION, "fault", (22, 22), &[], 1, PASSES),
-    (INSULATION, "fault", (31, 31), &[], 1, PASSES),
-    (INSULATION, "fault", (33, 33), &[], 1, PASSES),
-    (INSULATION, "door", (7, 7), &[], 1, PASSES),
-    (INSULATION, "door", (1, 6), &[], 1, OPENS),
+const WITHSTOOD: [Table; 10] = [
+    ("fault", (1, 25), &[14, 24], 1, FAILS),
+    ("fault", (14, 14), &[], 1, PASSES),
+    ("fault", (24, 24), &[], 1, PASSES),
+    ("fault", (26, 26), &[], 1, PASSES),
+    ("fault", (14, 14), &[], 2, PASSES),
+    ("fault", (7, 13), &[], 4, STICKS),
+    ("fault", (14, 14), &[], 3, STICKS),
+    ("fault", (6, 6), &[], 4, UNSEATS),
+    ("door", (1, 4), &[], 1, OPENS),
+    ("door", (5, 5), &[], 1, PASSES),
+];
+
+const INSULATED: [Table; 7] = [
+    ("fault", (1, 32), &[13, 22, 31], 1, FAILS),
+    ("fault", (13, 13), &[], 1, PASSES),
+    ("fault", (22, 22), &[], 1, PASSES),
+    ("fault", (31, 31), &[], 1, PASSES),
+    ("fault", (33, 33), &[], 1, PASSES),
+    ("door", (7, 7), &[], 1, PASSES),
+    ("door", (1, 6), &[], 1, OPENS),
 ];
 
 /// The bytes of a journal that holds the program and the unit, and of one that holds a test that passed too.
@@ -142,21 +134,35 @@ fn each_test_ends(
     Ok(())
 }
 
-#[test]
-fn a_refused_call_has_its_answer_and_its_end(rt: HostRuntime) -> Result<(), Fail> {
-    for (test, kind, (first, last), left_out, rows, outcome) in TABLES {
-        let wires = format!(in rt.alloc(); "part,P1,1\npoints,5\nnet,A,0,1\nnet,B,2,3\n{test}")?;
-        for number in first..last.saturating_add(1) {
+/// Asserts that each row of the tables comes to its outcome, where the wirelist asks for this test at high voltage.
+fn each_row_ends(
+    rt: &(impl AllocGlobal + Abort),
+    test: &str,
+    tables: &[Table],
+) -> Result<(), Fail> {
+    let wires = format!(in rt.alloc(); "part,P1,1\npoints,5\nnet,A,0,1\nnet,B,2,3\n{test}\n")?;
+    for (kind, (first, last), left_out, rows, outcome) in tables {
+        for number in *first..last.saturating_add(1) {
             if left_out.contains(&number) {
                 continue;
             }
-            let harness = harness_of(rt.alloc(), kind, number, rows)?;
+            let harness = harness_of(rt.alloc(), kind, number, *rows)?;
             let files = Files {
                 harness: harness.as_str(),
                 wires: wires.as_str(),
             };
-            each_test_ends(&rt, files, outcome)?;
+            each_test_ends(rt, files, *outcome)?;
         }
     }
     Ok(())
+}
+
+#[test]
+fn a_refused_call_of_a_withstand_has_its_answer_and_its_end(rt: HostRuntime) -> Result<(), Fail> {
+    each_row_ends(&rt, "withstand,50,1,1000", &WITHSTOOD)
+}
+
+#[test]
+fn a_refused_call_of_an_insulation_has_its_answer_and_its_end(rt: HostRuntime) -> Result<(), Fail> {
+    each_row_ends(&rt, "insulation,50,1,100", &INSULATED)
 }
