@@ -1,37 +1,21 @@
 //! Units of a simulator's file.
 
-ghost use Rattle.std.specs.Prelude.{◌≡◌, IfOk};
+ghost use Rattle.std.specs.Prelude.{◌≡◌};
 ghost use Rattle.partition.specs.NetTable.{programmed_of};
 ghost use Rattle.wirelist.specs.Programs.{IsProgram};
 
 use crate::order::{End, end_of};
+use crate::unit::{Ended, harness, program, prove};
 use applications::HvStop;
 use hv::{InsulationDone, WithstandDone, insulation, withstand};
-use isolate::{ContinuityStop, IsolationStop, continuity, isolation};
-use rig::{Proven, SeatStop, Seated};
+use rig::Proven;
 use rig_sim::SimRig;
 use std::alloc::Global;
 use std::test::Fail;
 use wirelist::{LeakFaults, Program};
 
-/// The cluster of each point of the program below: A, B, and the point in no net.
+/// The cluster of each point of the unit's program: A, B, and the point in no net.
 const CLUSTERS: [u8; 5] = [0, 0, 1, 1, 2];
-
-/// A harness of 5 points whose unit has the program's joins, with further rows.
-fn harness(alloc: Global, above: &str, rows: &str) -> Result<String, Fail> {
-    Ok(format!(in alloc; "points 5\n{above}unit SN1 1\nwire 0 1\nwire 2 3\n{rows}end\n")?)
-}
-
-/// The program of that harness, with these tests.
-fn program(alloc: Global, tests: &str) -> Result<Program, Fail>
-    ensures { IfOk result IsProgram }
-{
-    let text = format!(in alloc; "part,P1,1\npoints,5\nnet,A,0,1\nnet,B,2,3\n{tests}")?;
-    match wirelist_reader::read(alloc, text.as_bytes()) {
-        Ok(p) => Ok(p),
-        Err(_) => Err("no program")?,
-    }
-}
 
 /// What the tests of a unit came to, in words, and the rig after them.
 #[derive(Drop)]
@@ -136,38 +120,11 @@ fn tested(alloc: Global, proven: Proven<SimRig>, p: &Program) -> Result<Came, Fa
 /// The tests of the unit SN1 of a harness file.
 fn run(alloc: Global, harness: &str, tests: &str) -> Result<Came, Fail> {
     let p = program(alloc, tests)?;
-    let seat = match Seated::take(SimRig::read(alloc, harness.as_bytes())?, "SN1", 1) {
-        Ok(seat) => seat,
-        Err(SeatStop::Absent(rig)) => return ended(alloc, "absent", rig),
-        Err(SeatStop::Rig(rig)) => return ended(alloc, "fault", rig),
-        Err(SeatStop::Memory(rig)) => return ended(alloc, "memory", rig),
-    };
-    if seat.points() != p.nets.points() {
-        return ended(alloc, "points", seat.into_rig());
+    let rig = SimRig::read(alloc, harness.as_bytes())?;
+    match prove(alloc, rig, &p) {
+        Ok(proven) => tested(alloc, proven, &p),
+        Err(Ended { word, rig }) => ended(alloc, word, rig),
     }
-    let unit = match continuity(alloc, seat, &p.nets) {
-        Ok(unit) => unit,
-        Err(
-            ContinuityStop::OpenAt {
-                seat,
-                net: _,
-                point: _,
-            },
-        ) => return ended(alloc, "wiring", seat.into_rig()),
-        Err(ContinuityStop::Rig(seat)) => return ended(alloc, "fault", seat.into_rig()),
-        Err(ContinuityStop::Memory(seat)) => return ended(alloc, "memory", seat.into_rig()),
-    };
-    let proven = match isolation(alloc, unit) {
-        Ok(proven) => proven,
-        Err(IsolationStop::ShortAt { seat, bit: _ }) => return ended(
-            alloc,
-            "wiring",
-            seat.into_rig(),
-        ),
-        Err(IsolationStop::Rig(seat)) => return ended(alloc, "fault", seat.into_rig()),
-        Err(IsolationStop::Memory(seat)) => return ended(alloc, "memory", seat.into_rig()),
-    };
-    tested(alloc, proven, &p)
 }
 
 #[test]
