@@ -21,7 +21,8 @@ use Rattle.bench_cli.specs.Told.{HasRows, HasProgram, FailedRead, HarnessInForm,
 
 -- the journal was opened, and the input was taken in
 pub record Imported (p : Program) (run : Run) (status : ℕ) (rig final : RigState) : Type 0 where
-  pub opened : ImportOpened rig p run.disk run.sunk.got run.moments run.input.left status final run.disk_after run.sunk.got_after run.moments_after run.input.left_after
+  pub opened : ImportOpened rig p run.disk run.sunk.got run.moments run.input.left status final
+      run.disk_after run.sunk.got_after run.moments_after run.input.left_after
   pub causes : Causes (counts_before run rig) (counts_after run final) status
   pub complete : OverJournal run (Completes (counts_before run rig) (counts_after run final) status)
 
@@ -36,7 +37,8 @@ ImportsRows (both sim p) run status rig = MatchOption rig (Refused run status si
 -- `headline` is said of a disk that is honest, tells, and begins with a sound file: a file that keeps the records R0. What the output had
 -- got, the moments and the input are those that are told.
 pub record AnsweredRows (rows : List HarnessRow) (p : Program) (run : Run) (status : ℕ) (began final : RigState) : Type 0 where
-  pub rows_answered : ImportAnswered began p run.disk run.sunk.got run.moments run.input.left status final run.disk_after run.sunk.got_after run.input.left_after
+  pub rows_answered : ImportAnswered began p run.disk run.sunk.got run.moments run.input.left status final
+      run.disk_after run.sunk.got_after run.input.left_after
   pub headline : (file : List ℕ) (R0 : List StationRecord) → BeginsSound run.disk file R0
       → (got moments input : List ℕ) → run.sunk.got ≡ Some got → run.moments ≡ Some moments → run.input.left ≡ Some input
       → ImportHeadline run.disk file R0 rows_answered.begun.station (record { findings = found_in (units_of rows) p; got = got; moments = moments })

@@ -35,8 +35,10 @@ pub trait Door {
     fn accept(&mut self) -> Result<Self::Conn, EdgeStop>
         ensures cause { HasCause (Self.door_faults self.old) (Self.door_faults self.new) (result_err result) EdgeStop.Failed }
         ensures counted { CountsFailure (Self.door_faults self.old) (Self.door_faults self.new) result }
-        ensures first { IfOk result (λ c. TakesFirst (Self.waiting self.old) (Self.waiting self.new) (record { left = Self.Conn.left c; got = Self.Conn.got c; read_faults = Self.Conn.read_faults c; write_faults = Self.Conn.write_faults c })) }
-        ensures fresh { IfOk result (λ c. IsFresh (record { left = Self.Conn.left c; got = Self.Conn.got c; read_faults = Self.Conn.read_faults c; write_faults = Self.Conn.write_faults c })) }
+        ensures first { IfOk result (λ c. TakesFirst (Self.waiting self.old) (Self.waiting self.new)
+            (record { left = Self.Conn.left c; got = Self.Conn.got c; read_faults = Self.Conn.read_faults c; write_faults = Self.Conn.write_faults c })) }
+        ensures fresh { IfOk result (λ c. IsFresh
+            (record { left = Self.Conn.left c; got = Self.Conn.got c; read_faults = Self.Conn.read_faults c; write_faults = Self.Conn.write_faults c })) }
         ensures room { IfOk result (λ _. 1 ≤ Self.room self.new) }
         ensures waiting { OnErr result (Self.waiting self.new ≡ Self.waiting self.old) }
         ensures done { Self.done self.new ≡ Self.done self.old };
@@ -44,6 +46,13 @@ pub trait Door {
     /// Takes a connection back, and puts it behind those that are finished.
     fn finish(&mut self, conn: Self::Conn)
         requires { 1 ≤ Self.room self.old }
-        ensures done { Self.done self.new ≡ with_done (Self.done self.old) (record { left = Self.Conn.left conn; got = Self.Conn.got conn; read_faults = Self.Conn.read_faults conn; write_faults = Self.Conn.write_faults conn }) }
-        ensures rest { Finished (Self.waiting self.old) (Self.waiting self.new) (Self.door_faults self.old) (Self.door_faults self.new) (Self.room self.old) (Self.room self.new) };
+        ensures done { Self.done self.new ≡ with_done (Self.done self.old)
+            (record {
+              left = Self.Conn.left conn;
+              got = Self.Conn.got conn;
+              read_faults = Self.Conn.read_faults conn;
+              write_faults = Self.Conn.write_faults conn;
+            }) }
+        ensures rest { Finished (Self.waiting self.old) (Self.waiting self.new)
+            (Self.door_faults self.old) (Self.door_faults self.new) (Self.room self.old) (Self.room self.new) };
 }

@@ -26,7 +26,14 @@ impl Model for MemDoor {
 
     ghost Value = { AtDoor };
 
-    ghost view = { λ d. record { waiting = d.waiting.items; done = d.done.items; room = d.done.room; failing = d.failing; calls = d.calls; faults = d.faults } };
+    ghost view = { λ d. record {
+      waiting = d.waiting.items;
+      done = d.done.items;
+      room = d.done.room;
+      failing = d.failing;
+      calls = d.calls;
+      faults = d.faults;
+    } };
 
     ghost invariant = { λ d. All IsNew d.waiting.items };
 }

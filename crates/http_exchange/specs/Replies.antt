@@ -73,7 +73,8 @@ abbrev pub refusal_reply : Refusal → Reply
 refusal_reply refusal.Request = error_reply 400 (codes "Bad Request") (refusal_word refusal.Request)
 refusal_reply refusal.Coding = error_reply 501 (codes "Not Implemented") (refusal_word refusal.Coding)
 refusal_reply refusal.NotFound = error_reply 404 (codes "Not Found") (refusal_word refusal.NotFound)
-refusal_reply (refusal.Method allowed) = record (error_reply 405 (codes "Method Not Allowed") (refusal_word (refusal.Method allowed))) { allowed = Some allowed }
+refusal_reply (refusal.Method allowed) =
+    record (error_reply 405 (codes "Method Not Allowed") (refusal_word (refusal.Method allowed))) { allowed = Some allowed }
 refusal_reply refusal.Length = error_reply 411 (codes "Length Required") (refusal_word refusal.Length)
 refusal_reply refusal.TooLong = error_reply 413 (codes "Content Too Large") (refusal_word refusal.TooLong)
 

@@ -1,7 +1,8 @@
 -- What the bytes of a connection ask of the station: the first check that applies.
 --     HeadAsks head asked       what a head asks: the checks on a head, in their order
 --     Asks bytes request        what the bytes ask, or None where they end before the request does
-use Rattle.std.specs.Prelude.{◌≡◌, ◌⊎◌, ℕ, Bool, ◌&&◌, nat_lt, nat_le, bytes_eq, List, [], ◌∷◌, length, take, drop, codes, Option, Some, None, MatchOption, if◌then◌else◌, ⊤}
+use Rattle.std.specs.Prelude.{◌≡◌, ◌⊎◌, ℕ, Bool, ◌&&◌, nat_lt, nat_le, bytes_eq, if◌then◌else◌, ⊤}
+use Rattle.std.specs.Prelude.{List, [], ◌∷◌, length, take, drop, codes, Option, Some, None, MatchOption}
 use Rattle.std.specs.Fmt.{decimal}
 use Rattle.std.specs.Str.Parse.{digits_value}
 use Rattle.httparse.specs.Grammar.{RequestHead}

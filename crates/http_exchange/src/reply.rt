@@ -1,7 +1,8 @@
 //! The replies, as texts.
 
 ghost use Rattle.std.specs.Prelude.{◌≡◌, IfOk, string_bytes};
-ghost use Rattle.http_exchange.specs.Replies.{first_line, allow_line, type_line, length_line, json_text, reply_bytes, refusal_reply, stop_reply, report_reply, answer_reply};
+ghost use Rattle.http_exchange.specs.Replies.{first_line, allow_line, type_line, length_line, json_text, reply_bytes};
+ghost use Rattle.http_exchange.specs.Replies.{refusal_reply, stop_reply, report_reply, answer_reply};
 
 use crate::page::Verb;
 use crate::request::Refusal;
@@ -183,7 +184,13 @@ fn memory_reply() -> &'static [u8]
 
 /// A reply with this body.
 fn reply_text(alloc: Global, start: Start, body: &str) -> Result<Text, Memory>
-    ensures { IfOk result (λ text. text ≡ reply_bytes (record { status = start.entry.status; phrase = start.entry.phrase.now; allowed = start.entry.allowed; kind = start.entry.kind.now; body = body.now })) }
+    ensures { IfOk result (λ text. text ≡ reply_bytes (record {
+      status = start.entry.status;
+      phrase = start.entry.phrase.now;
+      allowed = start.entry.allowed;
+      kind = start.entry.kind.now;
+      body = body.now;
+    })) }
 {
     let mut text = Text::new(alloc);
     text.push_str(first_line(alloc, start.status, start.phrase)?.as_str())?;

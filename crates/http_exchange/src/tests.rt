@@ -10,7 +10,8 @@ use serials::Command;
 use std::test::Fail;
 
 const SMALL: &str =
-    "POST /tests HTTP/1.1\r\nHost: 127.0.0.1:8080\r\nUser-Agent: curl/8.5.0\r\nAccept: */*\r\nContent-Type: application/json\r\nContent-Length: 26\r\n\r\n{\"id\":\"S1\",\"serial\":\"SN1\"}";
+    "POST /tests HTTP/1.1\r\nHost: 127.0.0.1:8080\r\nUser-Agent: curl/8.5.0\r\nAccept: */*\r\n\
+    Content-Type: application/json\r\nContent-Length: 26\r\n\r\n{\"id\":\"S1\",\"serial\":\"SN1\"}";
 
 fn read(rt: &impl AllocGlobal, bytes: &[u8], failing: u64) -> Result<Option<Request>, EdgeStop> {
     let bytes = Bytes::from_slice(rt.alloc(), bytes)?;
@@ -166,7 +167,8 @@ fn replies_are_these_bytes(rt: HostRuntime) -> Result<(), Fail> {
     let method = refusal_reply(rt.alloc(), Refusal::Method(Verb::Post))?;
     assert_eq!(rt;
         method.as_str(),
-        "HTTP/1.1 405 Method Not Allowed\r\nAllow: POST\r\nContent-Type: application/json\r\nContent-Length: 18\r\nConnection: close\r\n\r\n{\"error\":\"method\"}"
+        "HTTP/1.1 405 Method Not Allowed\r\nAllow: POST\r\nContent-Type: application/json\r\n\
+        Content-Length: 18\r\nConnection: close\r\n\r\n{\"error\":\"method\"}"
     );
     let report = report_reply(rt.alloc(), "UNIT SN1\n")?;
     assert_eq!(rt;

@@ -1,7 +1,8 @@
 -- What the rows of an import ask.
 --     asked_by_rows bytes     what they ask, in order, each with its record's number
 --     is_too_long bytes       the input is refused whole
-use Rattle.std.specs.Prelude.{ℕ, Bool, false, ◌==◌, ◌&&◌, ◌||◌, nat_lt, List, [], ◌∷◌, length, filter_map, codes, bytes_eq, Option, Some, None, if◌then◌else◌, ⊤}
+use Rattle.std.specs.Prelude.{ℕ, Bool, false, ◌==◌, ◌&&◌, ◌||◌, nat_lt, if◌then◌else◌, ⊤}
+use Rattle.std.specs.Prelude.{List, [], ◌∷◌, length, filter_map, codes, bytes_eq, Option, Some, None}
 use Rattle.std.specs.List.{enumerate_from}
 use Rattle.partition.specs.Names.{is_name}
 use Rattle.serials.specs.declared.command.Command.{Command}

@@ -2,7 +2,8 @@
 --     different texts     how many different texts there are
 --     yield_text f t      f of t in percent, to a tenth
 --     lot_text R          the report
-use Rattle.std.specs.Prelude.{ℕ, ◌+◌, ◌*◌, ◌/◌, ◌%◌, Bool, true, false, ◌==◌, List, ◌++◌, length, filter, filter_map, count_by, slice_get, codes, decimal, bytes_eq, Option, Some, None, is_some, if◌then◌else◌}
+use Rattle.std.specs.Prelude.{ℕ, ◌+◌, ◌*◌, ◌/◌, ◌%◌, Bool, true, false, ◌==◌, if◌then◌else◌, Option, Some, None, is_some}
+use Rattle.std.specs.Prelude.{List, ◌++◌, length, filter, filter_map, count_by, slice_get, codes, decimal, bytes_eq}
 use Rattle.std.specs.Option.{option_map_or}
 use Rattle.std.specs.Set.{distinct_count}
 use Rattle.wirelist.specs.declared.program.Program.{Program}

@@ -1,6 +1,7 @@
 //! How many serials there are.
 
-ghost use Rattle.std.specs.Prelude.{◌≡◌, ◌++◌, ℕ, List, option_to_list, filter, filter_map, bytes_eq, is_some, option_map, IfOk, OnOk, OnErr, Some, None, if◌then◌else◌, unwrap_or, false};
+ghost use Rattle.std.specs.Prelude.{◌≡◌, ◌++◌, ℕ, List, option_to_list, filter, filter_map, bytes_eq, if◌then◌else◌, false};
+ghost use Rattle.std.specs.Prelude.{is_some, option_map, unwrap_or, IfOk, OnOk, OnErr, Some, None};
 ghost use Rattle.std.specs.Option.{option_or};
 ghost use Rattle.std.specs.Ordering.{nat_cmp};
 ghost use Rattle.std.specs.Cmp.Lexicographic.{slice_cmp};

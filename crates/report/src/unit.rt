@@ -4,7 +4,8 @@ ghost use Rattle.std.specs.Prelude.{◌≡◌, ◌++◌, ◌<◌, ◌^◌, ◌�
 ghost use Rattle.std.specs.List.{flat_map};
 ghost use Rattle.records.specs.RecordRanges.{IsRecord, last_moment};
 ghost use Rattle.outcome_lines.specs.Labels.{HasLabels};
-ghost use Rattle.report.specs.UnitText.{body_lines, event_line, heading, noted_lines, numbered_records, record_lines, staff_text, status_word, test_line, unit_text};
+ghost use Rattle.report.specs.UnitText.{body_lines, event_line, heading, noted_lines, numbered_records, record_lines};
+ghost use Rattle.report.specs.UnitText.{staff_text, status_word, test_line, unit_text};
 ghost use Rattle.wirelist.specs.Outcomes.{AreCountable};
 
 use crate::dates::date_of;

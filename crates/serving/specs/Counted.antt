@@ -22,14 +22,16 @@ use Rattle.station_http.specs.Turns.{GoesOnWith}
 use Rattle.serving.specs.Visits.{ServedSo, Stage, Visits, last_stage, Left, Serves}
 
 -- what was said to a request's command, or that it came to none
-abbrev pub said_by : (old new : StationState) (moments moments' : Option (List ℕ)) (reply : Reply) (r : Request) → GoesOnWith old r moments moments' reply new → Said
+abbrev pub said_by : (old new : StationState) (moments moments' : Option (List ℕ)) (reply : Reply) (r : Request)
+    → GoesOnWith old r moments moments' reply new → Said
 said_by old new moments moments' reply (request.Command c) answers = replied (id_of c) (answered answers.answer)
 said_by old new moments moments' reply (request.Refused why) went_on = no_command 0
 said_by old new moments moments' reply (request.Unit serial) went_on = no_command 0
 said_by old new moments moments' reply request.Lot went_on = no_command 0
 
 -- what was said to a connection
-abbrev pub said_in : (old new : StationState) (came went : Talk) (moments moments' : Option (List ℕ)) (status : Option ℕ) → ServedSo old came went moments moments' status new → Said
+abbrev pub said_in : (old new : StationState) (came went : Talk) (moments moments' : Option (List ℕ)) (status : Option ℕ)
+    → ServedSo old came went moments moments' status new → Said
 said_in old new came went moments moments' status (inl whole) = said_by old new moments moments' whole.replied.reply whole.asked whole.replied.went_on
 said_in old new came went moments moments' status (inr cut) = no_command 0
 
@@ -45,7 +47,8 @@ IsStuck last = (id : List ℕ) × (last ≡ replied id not_at_zero ∷ [])
 
 -- The connections that were visited, and what was said to one more, if one was served: with status 10 that three zero calls failed.
 -- Each answer that the rig failed, or that the door was open, comes of a command in which that count rose.
-pub record AnswersWithin {R D : Type 0} (rig_state : R → RigState) (disk_state : D → DiskState) (count : ℕ) (first : Stage) (status : ℕ) (left : Left) : Type 0 where
+pub record AnswersWithin {R D : Type 0} (rig_state : R → RigState) (disk_state : D → DiskState)
+    (count : ℕ) (first : Stage) (status : ℕ) (left : Left) : Type 0 where
   pub serves : Serves rig_state disk_state count first status left
   pub last : List Said
   pub stuck : status ≡ 10 → IsStuck last
@@ -53,7 +56,8 @@ pub record AnswersWithin {R D : Type 0} (rig_state : R → RigState) (disk_state
 
 -- `added` are the records that the connections added. With status 0 the group readings are those that each test among them takes, where
 -- no unit had a wiring fault and no test was refused since the rig failed, the door was open or the unit stayed charged.
-pub record TestsSpend {R D : Type 0} (rig_state : R → RigState) (disk_state : D → DiskState) (count : ℕ) (first : Stage) (status : ℕ) (left : Left) : Type 0 where
+pub record TestsSpend {R D : Type 0} (rig_state : R → RigState) (disk_state : D → DiskState)
+    (count : ℕ) (first : Stage) (status : ℕ) (left : Left) : Type 0 where
   pub serves : Serves rig_state disk_state count first status left
   pub added : List StationRecord
   pub is : (last_stage first serves.stages).station.records ≡ first.station.records ++ added

@@ -50,15 +50,15 @@ IsClosing status rest = ((status ≡ 0) × (rest ≡ [])) ⊎ ((closing : Closin
 -- ---- the end
 
 -- a connection was served, and a front of its line was written, since a write failed or memory ran out
-pub record IsUntold (findings : Findings) (p : Program) (R : List StationRecord) (moments : Option (List ℕ)) (number : ℕ) (c : Connection) (later : List StationRecord) (status : ℕ)
-    (rest : List ℕ) : Type 0 where
+pub record IsUntold (findings : Findings) (p : Program) (R : List StationRecord) (moments : Option (List ℕ)) (number : ℕ)
+    (c : Connection) (later : List StationRecord) (status : ℕ) (rest : List ℕ) : Type 0 where
   pub is : IsReplied findings p R moments c later
   pub line : IsPrefix rest (conn_line number c.status)
   pub status_is : (status ≡ 7) ⊎ (status ≡ 9)
 
 -- the station stopped with a connection, and a front of the closing line was written
-pub record IsTheLast (findings : Findings) (p : Program) (R : List StationRecord) (moments : Option (List ℕ)) (c : Connection) (later : List StationRecord) (status : ℕ)
-    (rest : List ℕ) : Type 0 where
+pub record IsTheLast (findings : Findings) (p : Program) (R : List StationRecord) (moments : Option (List ℕ))
+    (c : Connection) (later : List StationRecord) (status : ℕ) (rest : List ℕ) : Type 0 where
   pub is : IsLastReply findings p R moments c.bytes (as_it_came c.bytes) c.went later
   pub no_status : c.status ≡ None
   pub line : IsClosing status rest
@@ -97,7 +97,8 @@ pub record ServesInOrder (findings : Findings) (p : Program) (R : List StationRe
 
 -- What the door still has waiting, what it has finished besides, and what was written besides. Each image of the disk keeps the records
 -- behind the connections that were told, or those behind one more.
-pub record ServedAtDoor (findings : Findings) (first : Stage) (count : ℕ) (waiting : List (List ℕ)) (done : List Talk) (got : List ℕ) (status : ℕ) (left : Left) : Type 0 where
+pub record ServedAtDoor (findings : Findings) (first : Stage) (count : ℕ)
+    (waiting : List (List ℕ)) (done : List Talk) (got : List ℕ) (status : ℕ) (left : Left) : Type 0 where
   pub still : List (List ℕ)
   pub finished : List Talk
   pub text : List ℕ

@@ -149,7 +149,8 @@ pub record Serves {R D : Type 0} (rig_state : R → RigState) (disk_state : D �
 -- ---- telling
 
 -- a connection that was served, told or not
-abbrev pub Tells : {R D : Type 0} → (R → RigState) → (D → DiskState) → ℕ → StationState → Talk → Talk → Option (List ℕ) → Option (List ℕ) → Option (List ℕ) → Option (List ℕ) → Result StationState (RunEnd R D) → Type 0
+abbrev pub Tells : {R D : Type 0} → (R → RigState) → (D → DiskState) → ℕ → StationState → Talk → Talk
+    → Option (List ℕ) → Option (List ℕ) → Option (List ℕ) → Option (List ℕ) → Result StationState (RunEnd R D) → Type 0
 Tells rig_state disk_state number old came went moments moments' got got' (Ok new) =
     (status : Option ℕ) × ServedSo old came went moments moments' status new × Appends got got' (conn_line number status)
 Tells {R} {D} rig_state disk_state number old came went moments moments' got got' (Err end) =

@@ -38,10 +38,12 @@ pub fn serve<R: Rig + Drop, D: Disk, O: Sink, C: Clock, N: Door>(
     requires fits { (R.state rig).points ≡ program.nets.points }
     ensures ends { MatchOption result.rig
         (ServeRefused (D.state disk)
-        (record { waiting = N.waiting door.old; done = N.done door.old; moments = C.moments clock.old; got = O.got out.old }) result.status (D.state result.disk)
+        (record { waiting = N.waiting door.old; done = N.done door.old; moments = C.moments clock.old; got = O.got out.old })
+        result.status (D.state result.disk)
         (record { waiting = N.waiting door.new; done = N.done door.new; moments = C.moments clock.new; got = O.got out.new }))
         (λ held. ServeOpened (R.state rig) program (D.state disk) count
-        (record { waiting = N.waiting door.old; done = N.done door.old; moments = C.moments clock.old; got = O.got out.old }) result.status (R.state held) (D.state result.disk)
+        (record { waiting = N.waiting door.old; done = N.done door.old; moments = C.moments clock.old; got = O.got out.old })
+        result.status (R.state held) (D.state result.disk)
         (record { waiting = N.waiting door.new; done = N.done door.new; moments = C.moments clock.new; got = O.got out.new })) }
     ensures causes { MatchOption result.rig
         (Causes
@@ -92,7 +94,15 @@ fn listen_and_serve<R: Rig + Drop, D: Disk, O: Sink, C: Clock, N: Door>(
 ) -> RunEnd<R, D>
     ensures serves { ServesFrom count
         (record { station = station; waiting = N.waiting door.old; done = N.done door.old; moments = C.moments clock.old; got = O.got out.old })
-        result.status (record { rig = R.state result.rig; disk = D.state result.disk; waiting = N.waiting door.new; done = N.done door.new; moments = C.moments clock.new; got = O.got out.new }) }
+        result.status
+        (record {
+          rig = R.state result.rig;
+          disk = D.state result.disk;
+          waiting = N.waiting door.new;
+          done = N.done door.new;
+          moments = C.moments clock.new;
+          got = O.got out.new;
+        }) }
     ensures causes { Causes
         (counts (O.write_faults out.old) station.disk.faults station.rig.faults (N.door_faults door.old))
         (counts (O.write_faults out.new) (D.state result.disk).faults (R.state result.rig).faults (N.door_faults door.new)) result.status }

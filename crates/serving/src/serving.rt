@@ -43,26 +43,60 @@ pub fn serve_all<R: Rig + Drop, D: Disk, O: Sink, C: Clock, N: Door>(
 ) -> RunEnd<R, D>
     ensures serves { Serves R.state D.state count
         (record { station = station; waiting = N.waiting door.old; done = N.done door.old; moments = C.moments clock.old; got = O.got out.old })
-        result.status (record { rig = R.state result.rig; disk = D.state result.disk; waiting = N.waiting door.new; done = N.done door.new; moments = C.moments clock.new; got = O.got out.new }) }
+        result.status
+        (record {
+          rig = R.state result.rig;
+          disk = D.state result.disk;
+          waiting = N.waiting door.new;
+          done = N.done door.new;
+          moments = C.moments clock.new;
+          got = O.got out.new;
+        }) }
     ensures keeps { TellsDisk station.disk → ServingKeeps station result.status (D.state result.disk) }
     ensures limit { LeavesOnly station.disk (D.state result.disk) (KeepsLimit station.disk) }
     ensures order { IsInOrderOf station.program station.rig → InOrderAt station.program result.status (R.state result.rig) }
     ensures causes { Causes (record { out = O.write_faults out.old; disk = station.disk.faults; rig = station.rig.faults; door = N.door_faults door.old })
-        (record { out = O.write_faults out.new; disk = (D.state result.disk).faults; rig = (R.state result.rig).faults; door = N.door_faults door.new }) result.status }
+        (record { out = O.write_faults out.new; disk = (D.state result.disk).faults; rig = (R.state result.rig).faults; door = N.door_faults door.new })
+        result.status }
 
     // Where the door and the output are told, and the rig tells its units, the connections are served in order.
     ensures in_order { (findings : Findings) → IsTold station findings → ServesTold findings
         (record { station = station; waiting = N.waiting door.old; done = N.done door.old; moments = C.moments clock.old; got = O.got out.old })
-        count result.status (record { rig = R.state result.rig; disk = D.state result.disk; waiting = N.waiting door.new; done = N.done door.new; moments = C.moments clock.new; got = O.got out.new }) }
+        count result.status
+        (record {
+          rig = R.state result.rig;
+          disk = D.state result.disk;
+          waiting = N.waiting door.new;
+          done = N.done door.new;
+          moments = C.moments clock.new;
+          got = O.got out.new;
+        }) }
     ensures answers { AnswersWithin R.state D.state count
         (record { station = station; waiting = N.waiting door.old; done = N.done door.old; moments = C.moments clock.old; got = O.got out.old })
-        result.status (record { rig = R.state result.rig; disk = D.state result.disk; waiting = N.waiting door.new; done = N.done door.new; moments = C.moments clock.new; got = O.got out.new }) }
+        result.status
+        (record {
+          rig = R.state result.rig;
+          disk = D.state result.disk;
+          waiting = N.waiting door.new;
+          done = N.done door.new;
+          moments = C.moments clock.new;
+          got = O.got out.new;
+        }) }
     ensures complete { Completes (record { out = O.write_faults out.old; disk = station.disk.faults; rig = station.rig.faults; door = N.door_faults door.old })
-        (record { out = O.write_faults out.new; disk = (D.state result.disk).faults; rig = (R.state result.rig).faults; door = N.door_faults door.new }) result.status }
+        (record { out = O.write_faults out.new; disk = (D.state result.disk).faults; rig = (R.state result.rig).faults; door = N.door_faults door.new })
+        result.status }
     ensures tests { TellsDisk station.disk → ServingShows station result.status (R.state result.rig) (D.state result.disk) }
     ensures spent { TellsDisk station.disk → TestsSpend R.state D.state count
         (record { station = station; waiting = N.waiting door.old; done = N.done door.old; moments = C.moments clock.old; got = O.got out.old })
-        result.status (record { rig = R.state result.rig; disk = D.state result.disk; waiting = N.waiting door.new; done = N.done door.new; moments = C.moments clock.new; got = O.got out.new }) }
+        result.status
+        (record {
+          rig = R.state result.rig;
+          disk = D.state result.disk;
+          waiting = N.waiting door.new;
+          done = N.done door.new;
+          moments = C.moments clock.new;
+          got = O.got out.new;
+        }) }
 {
     let _records = station.records();
     serve_each(alloc, station, count, out, clock, door)
@@ -79,7 +113,15 @@ fn serve_each<R: Rig + Drop, D: Disk, O: Sink, C: Clock, N: Door>(
 ) -> RunEnd<R, D>
     ensures serves { Serves R.state D.state count
         (record { station = station; waiting = N.waiting door.old; done = N.done door.old; moments = C.moments clock.old; got = O.got out.old })
-        result.status (record { rig = R.state result.rig; disk = D.state result.disk; waiting = N.waiting door.new; done = N.done door.new; moments = C.moments clock.new; got = O.got out.new }) }
+        result.status
+        (record {
+          rig = R.state result.rig;
+          disk = D.state result.disk;
+          waiting = N.waiting door.new;
+          done = N.done door.new;
+          moments = C.moments clock.new;
+          got = O.got out.new;
+        }) }
     ensures out_later { O.write_faults out.old ≤ O.write_faults out.new }
     ensures door_later { N.door_faults door.old ≤ N.door_faults door.new }
     ensures out_cause { result.status ≡ 7 → Rose (O.write_faults out.old) (O.write_faults out.new) }
@@ -114,7 +156,15 @@ fn serve_next<R: Rig + Drop, D: Disk, O: Sink, C: Clock, N: Door>(
         (record { station = after; waiting = N.waiting door.new; done = N.done door.new; moments = C.moments clock.new; got = O.got out.new })) }
     ensures ended { IfErr result (λ end. EndsAt R.state D.state number
         (record { station = station; waiting = N.waiting door.old; done = N.done door.old; moments = C.moments clock.old; got = O.got out.old })
-        end.status (record { rig = R.state end.rig; disk = D.state end.disk; waiting = N.waiting door.new; done = N.done door.new; moments = C.moments clock.new; got = O.got out.new })) }
+        end.status
+        (record {
+          rig = R.state end.rig;
+          disk = D.state end.disk;
+          waiting = N.waiting door.new;
+          done = N.done door.new;
+          moments = C.moments clock.new;
+          got = O.got out.new;
+        })) }
     ensures out_later { O.write_faults out.old ≤ O.write_faults out.new }
     ensures door_later { N.door_faults door.old ≤ N.door_faults door.new }
     ensures out_cause { IfErr result (λ end. end.status ≡ 7 → Rose (O.write_faults out.old) (O.write_faults out.new)) }
@@ -178,7 +228,8 @@ fn told<R: Rig + Drop, D: Disk, O: Sink>(
     done: ServeDone<R, D>,
     out: &mut O,
 ) -> Result<Station<R, D>, RunEnd<R, D>>
-    ensures tells { (old : StationState) (came went : Talk) (moments moments' : Option (List ℕ)) → ServedSo old came went moments moments' done.status done.station
+    ensures tells { (old : StationState) (came went : Talk) (moments moments' : Option (List ℕ))
+        → ServedSo old came went moments moments' done.status done.station
         → Tells R.state D.state number old came went moments moments' (O.got out.old) (O.got out.new) result }
     ensures out_later { O.write_faults out.old ≤ O.write_faults out.new }
     ensures out_cause { IfErr result (λ end. end.status ≡ 7 → Rose (O.write_faults out.old) (O.write_faults out.new)) }

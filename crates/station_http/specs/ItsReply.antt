@@ -103,7 +103,8 @@ pub record IsLastReply (findings : Findings) (p : Program) (R : List StationReco
 -- ---- the station behind it
 
 -- The station goes on. A crash at any moment leaves the records before, or those behind.
-pub record IsServed (findings : Findings) (old new : StationState) (moments moments' : Option (List ℕ)) (bytes : List ℕ) (came went : Talk) (status : Option ℕ) : Type 0 where
+pub record IsServed (findings : Findings) (old new : StationState) (moments moments' : Option (List ℕ))
+    (bytes : List ℕ) (came went : Talk) (status : Option ℕ) : Type 0 where
   pub is : IsItsReply findings old.program old.records moments bytes came went status new.records
   pub clock : PassesMoment moments moments'
   pub images : LeavesOnly old.disk new.disk (IsImageOfEither old.records new.records)
@@ -126,8 +127,8 @@ KeepsAt state (NotZero rig disk) R later = EachImage (state disk) (IsImageOf R)
 KeepsAt state (Memory rig disk) R later = EachImage (state disk) (IsImageOfEither R later)
 
 -- The station stopped. A crash at any moment leaves the records before, or those that are due.
-pub record IsStopped {R D : Type 0} (disk_state : D → DiskState) (findings : Findings) (old : StationState) (moments moments' : Option (List ℕ)) (bytes : List ℕ) (came went : Talk)
-    (halt : StepStop R D) : Type 0 where
+pub record IsStopped {R D : Type 0} (disk_state : D → DiskState) (findings : Findings) (old : StationState)
+    (moments moments' : Option (List ℕ)) (bytes : List ℕ) (came went : Talk) (halt : StepStop R D) : Type 0 where
   pub later : List StationRecord
   pub is : IsLastReply findings old.program old.records moments bytes came went later
   pub says : SaysStop halt is.reply is.last
@@ -141,7 +142,8 @@ pub record ByFindings (old : StationState) (P : Findings → Type 0) : Type 0 wh
   pub some : Tells old.disk → (findings : Findings) × P findings
 
 -- What a connection came to, whose bytes are told.
-abbrev pub Replies : {R D : Type 0} → (D → DiskState) → StationState → Talk → Talk → Option (List ℕ) → Option (List ℕ) → Result (ServeDone R D) (StepStop R D) → Type 0
+abbrev pub Replies : {R D : Type 0} → (D → DiskState) → StationState → Talk → Talk
+    → Option (List ℕ) → Option (List ℕ) → Result (ServeDone R D) (StepStop R D) → Type 0
 Replies disk_state old came went moments moments' (Ok done) =
     IfSome came.left (λ bytes. ByFindings old (λ findings. IsServed findings old done.station moments moments' bytes came went done.status))
 Replies disk_state old came went moments moments' (Err halt) =

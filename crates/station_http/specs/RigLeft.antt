@@ -23,7 +23,9 @@ pub record DidAnswer (old new : StationState) : Type 0 where
 pub record DidStop (old : StationState) (rig : RigState) : Type 0 where
   pub command : Command
   pub now : ℕ
-  pub test : LeftOrTested (OfTest old command now) old.program old.rig rig ⊎ OfTest old command now (λ serial attempt. IsCutOff old.program serial attempt old.rig rig)
+  pub test :
+      LeftOrTested (OfTest old command now) old.program old.rig rig
+      ⊎ OfTest old command now (λ serial attempt. IsCutOff old.program serial attempt old.rig rig)
   pub tallies : GrowsTallies (OfTest old command now) old.rig rig
 
 -- Three zero calls of a test failed.

@@ -74,7 +74,8 @@ Wrote got got' faults faults' reply status =
     ⊎ (WrotePart got got' (reply_bytes reply) × Rose faults faults' × (status ≡ None))
 
 -- the reply of a turn was written, or tried
-pub record Replied (old : StationState) (r : Request) (moments moments' got got' : Option (List ℕ)) (faults faults' : ℕ) (status : Option ℕ) (new : StationState) : Type 0 where
+pub record Replied (old : StationState) (r : Request) (moments moments' got got' : Option (List ℕ))
+    (faults faults' : ℕ) (status : Option ℕ) (new : StationState) : Type 0 where
   pub reply : Reply
   pub went_on : GoesOnWith old r moments moments' reply new
   pub wrote : Wrote got got' faults faults' reply status
@@ -88,20 +89,25 @@ pub record StopsWriting (old : StationState) (r : Request) (moments moments' got
   pub wrote : WrotePart got got' (reply_bytes reply)
 
 -- a front of the reply that says why the station stops was written
-pub record StopsReplying {R D : Type 0} (rig_state : R → RigState) (disk_state : D → DiskState) (old : StationState) (r : Request) (moments moments' got got' : Option (List ℕ)) (halt : StepStop R D) : Type 0 where
+pub record StopsReplying {R D : Type 0} (rig_state : R → RigState) (disk_state : D → DiskState)
+    (old : StationState) (r : Request) (moments moments' got got' : Option (List ℕ)) (halt : StepStop R D) : Type 0 where
   pub reply : Reply
   pub stops : Stops rig_state disk_state old r moments moments' reply halt
   pub wrote : WroteFront got got' (reply_bytes reply)
 
 -- only memory runs out as a reply is written
-abbrev pub StopsOnWriting : {R D : Type 0} → (R → RigState) → (D → DiskState) → StationState → Request → Option (List ℕ) → Option (List ℕ) → Option (List ℕ) → Option (List ℕ) → StepStop R D → Type 0
+abbrev pub StopsOnWriting : {R D : Type 0} → (R → RigState) → (D → DiskState) → StationState → Request
+    → Option (List ℕ) → Option (List ℕ) → Option (List ℕ) → Option (List ℕ) → StepStop R D → Type 0
 StopsOnWriting rig_state disk_state old r moments moments' got got' (Disk rig disk) = ⊥
 StopsOnWriting rig_state disk_state old r moments moments' got got' (NotZero rig disk) = ⊥
-StopsOnWriting rig_state disk_state old r moments moments' got got' (Memory rig disk) = StopsWriting old r moments moments' got got' (rig_state rig) (disk_state disk)
+StopsOnWriting rig_state disk_state old r moments moments' got got' (Memory rig disk) =
+    StopsWriting old r moments moments' got got' (rig_state rig) (disk_state disk)
 
 -- How a request that came whole ends.
-abbrev pub Finishes : {R D : Type 0} → (R → RigState) → (D → DiskState) → StationState → Request → Option (List ℕ) → Option (List ℕ) → Option (List ℕ) → Option (List ℕ) → ℕ → ℕ → Result (ServeDone R D) (StepStop R D) → Type 0
-Finishes rig_state disk_state old r moments moments' got got' faults faults' (Ok done) = Replied old r moments moments' got got' faults faults' done.status done.station
+abbrev pub Finishes : {R D : Type 0} → (R → RigState) → (D → DiskState) → StationState → Request
+    → Option (List ℕ) → Option (List ℕ) → Option (List ℕ) → Option (List ℕ) → ℕ → ℕ → Result (ServeDone R D) (StepStop R D) → Type 0
+Finishes rig_state disk_state old r moments moments' got got' faults faults' (Ok done) =
+    Replied old r moments moments' got got' faults faults' done.status done.station
 Finishes rig_state disk_state old r moments moments' got got' faults faults' (Err halt) =
     StopsReplying rig_state disk_state old r moments moments' got got' halt ⊎ StopsOnWriting rig_state disk_state old r moments moments' got got' halt
 
@@ -113,18 +119,22 @@ pub record StopsUnread (old : StationState) (talk talk' : Talk) (moments moments
   pub wrote : WroteFront talk.got talk'.got (reply_bytes (stop_reply stop.Memory))
 
 -- No request came whole: the connection was cut, or memory ran out.
-abbrev pub IsUnread : {R D : Type 0} → (R → RigState) → (D → DiskState) → StationState → Talk → Talk → Option (List ℕ) → Option (List ℕ) → Result (ServeDone R D) (StepStop R D) → Type 0
+abbrev pub IsUnread : {R D : Type 0} → (R → RigState) → (D → DiskState) → StationState → Talk → Talk
+    → Option (List ℕ) → Option (List ℕ) → Result (ServeDone R D) (StepStop R D) → Type 0
 IsUnread rig_state disk_state old talk talk' moments moments' (Ok done) = IsCut old talk talk' moments moments' done.status done.station
 IsUnread rig_state disk_state old talk talk' moments moments' (Err (Disk rig disk)) = ⊥
 IsUnread rig_state disk_state old talk talk' moments moments' (Err (NotZero rig disk)) = ⊥
-IsUnread rig_state disk_state old talk talk' moments moments' (Err (Memory rig disk)) = StopsUnread old talk talk' moments moments' (rig_state rig) (disk_state disk)
+IsUnread rig_state disk_state old talk talk' moments moments' (Err (Memory rig disk)) =
+    StopsUnread old talk talk' moments moments' (rig_state rig) (disk_state disk)
 
 -- A connection was served: a request came whole and ended so, or none came.
-pub record IsRead {R D : Type 0} (rig_state : R → RigState) (disk_state : D → DiskState) (old : StationState) (talk talk' : Talk) (moments moments' : Option (List ℕ)) (result : Result (ServeDone R D) (StepStop R D)) : Type 0 where
+pub record IsRead {R D : Type 0} (rig_state : R → RigState) (disk_state : D → DiskState)
+    (old : StationState) (talk talk' : Talk) (moments moments' : Option (List ℕ)) (result : Result (ServeDone R D) (StepStop R D)) : Type 0 where
   pub asked : Request
   pub read : Reads talk talk' asked
   pub finishes : Finishes rig_state disk_state old asked moments moments' talk.got talk'.got talk.write_faults talk'.write_faults result
 
-abbrev pub Served : {R D : Type 0} → (R → RigState) → (D → DiskState) → StationState → Talk → Talk → Option (List ℕ) → Option (List ℕ) → Result (ServeDone R D) (StepStop R D) → Type 0
+abbrev pub Served : {R D : Type 0} → (R → RigState) → (D → DiskState) → StationState → Talk → Talk
+    → Option (List ℕ) → Option (List ℕ) → Result (ServeDone R D) (StepStop R D) → Type 0
 Served rig_state disk_state old talk talk' moments moments' result =
     IsRead rig_state disk_state old talk talk' moments moments' result ⊎ IsUnread rig_state disk_state old talk talk' moments moments' result

@@ -46,7 +46,8 @@ pub record AreParts (s : StationState) (rig : RigState) (disk : DiskState) : Typ
   pub disk_is : disk ≡ s.disk
 
 -- the command found the disk failing
-pub record StopsOnDisk (old : StationState) (c : Command) (moments moments' : Option (List ℕ)) (reply : Reply) (rig : RigState) (disk : DiskState) : Type 0 where
+pub record StopsOnDisk (old : StationState) (c : Command) (moments moments' : Option (List ℕ)) (reply : Reply)
+    (rig : RigState) (disk : DiskState) : Type 0 where
   pub now : ℕ
   pub ticks : Ticks moments moments' now
   pub reply_is : reply ≡ stop_reply stop.Disk
@@ -86,9 +87,12 @@ StuckStops old (request.Command c) moments moments' reply rig disk = StopsStuck 
 StuckStops old others moments moments' reply rig disk = ⊥
 
 -- The station stops, and the request is replied so. Only a command may find the disk failing, or fail to come to zero.
-abbrev pub Stops : {R D : Type 0} → (R → RigState) → (D → DiskState) → StationState → Request → Option (List ℕ) → Option (List ℕ) → Reply → StepStop R D → Type 0
+abbrev pub Stops : {R D : Type 0} → (R → RigState) → (D → DiskState) → StationState → Request
+    → Option (List ℕ) → Option (List ℕ) → Reply → StepStop R D → Type 0
 Stops rig_state disk_state old request moments moments' reply (Disk rig disk) = DiskStops old request moments moments' reply (rig_state rig) (disk_state disk)
-Stops rig_state disk_state old request moments moments' reply (NotZero rig disk) = StuckStops old request moments moments' reply (rig_state rig) (disk_state disk)
+Stops rig_state disk_state old request moments moments' reply (NotZero rig disk) =
+    StuckStops old request moments moments' reply (rig_state rig) (disk_state disk)
 Stops rig_state disk_state old request moments moments' reply (Memory rig disk) =
     (reply ≡ stop_reply stop.Memory)
-    × (RunsOutWithin old request moments moments' (rig_state rig) (disk_state disk) ⊎ StopsBehind old request moments moments' (rig_state rig) (disk_state disk))
+    × (RunsOutWithin old request moments moments' (rig_state rig) (disk_state disk)
+    ⊎ StopsBehind old request moments moments' (rig_state rig) (disk_state disk))

@@ -8,7 +8,9 @@ ghost use Rattle.worked_examples.specs.Programs.{small_program, cable};
 /// A terminating resistor makes one cluster of its two nets; each other net is a cluster by itself.
 pub fn a_resistor_makes_one_cluster_of_two_nets()
     ensures count { cluster_count cable ≡ 8 }
-    ensures clusters { clusters_of cable ≡ (0 ∷ 8 ∷ 16 ∷ []) ∷ (1 ∷ 9 ∷ 17 ∷ []) ∷ (2 ∷ 10 ∷ []) ∷ (3 ∷ 11 ∷ []) ∷ (4 ∷ 12 ∷ []) ∷ (5 ∷ 13 ∷ []) ∷ (6 ∷ 7 ∷ 14 ∷ 15 ∷ 18 ∷ 19 ∷ 20 ∷ 21 ∷ []) ∷ (22 ∷ 23 ∷ []) ∷ [] }
+    ensures clusters { clusters_of cable
+        ≡ (0 ∷ 8 ∷ 16 ∷ []) ∷ (1 ∷ 9 ∷ 17 ∷ []) ∷ (2 ∷ 10 ∷ []) ∷ (3 ∷ 11 ∷ []) ∷ (4 ∷ 12 ∷ []) ∷ (5 ∷ 13 ∷ [])
+        ∷ (6 ∷ 7 ∷ 14 ∷ 15 ∷ 18 ∷ 19 ∷ 20 ∷ 21 ∷ []) ∷ (22 ∷ 23 ∷ []) ∷ [] }
 {}
 
 /// A point that is not judged is in no cluster, and is none of the others.
