@@ -208,9 +208,9 @@ fn the_trail_is_that_of_the_calls(rt: HostRuntime) -> Result<(), Fail> {
     for (above, rows, word, powered, rest) in units {
         let rows = format!(in alloc; "leak 0 2 300\n{rows}")?;
         let text = harness(alloc, above, rows.as_str())?;
+        let wanted = format!(in alloc; "{READINGS}{powered}{rest}")?;
         let ended = led(alloc, text.as_str())?;
         let words = trail_words(alloc, ended.rig.events().as_slice())?;
-        let wanted = format!(in alloc; "{READINGS}{powered}{rest}")?;
         assert_eq!(rt; ended.word, word);
         assert_eq!(rt; words.as_str(), wanted.as_str());
     }
