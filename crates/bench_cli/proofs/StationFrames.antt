@@ -4,8 +4,8 @@ use Rattle.rig_sim.specs.SimRig.{SimState}
 use Rattle.wirelist.specs.declared.program.Program.{Program}
 use Rattle.words.specs.declared.command.Command.TheVariants.{Run as RunScript}
 use Rattle.ledger.specs.Opening.{Opening, found, no_journal, bad_record, failed, no_memory as opening_memory}
+use Rattle.unopened.specs.Refused.{refused_status}
 use Rattle.script.specs.Opened.{IsRefusal}
-use Rattle.script.specs.Refused.{refused_status}
 use Rattle.script.specs.Closing.{Closing, status_of, none, read_fault, write_fault, disk_fault, memory, not_at_zero as stuck_source, line_too_long}
 use Rattle.bench_cli.specs.Run.{Run, both}
 use Rattle.bench_cli.specs.Scripting.{RunsScript}

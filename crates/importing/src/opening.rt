@@ -12,9 +12,10 @@ use crate::input::answer_input;
 use bench_edge::{Clock, Sink, Source};
 use disk_edge::Disk;
 use rig::Rig;
-use script::{RunDone, RunEnd, close_unopened};
+use script::{RunDone, RunEnd};
 use station::Station;
 use std::alloc::Global;
+use unopened::{CallEnd, close_unopened};
 use wirelist::Program;
 
 /// Opens the journal on a disk, takes in the whole input, and answers its rows. A refused opening ends with its closing line.
@@ -62,7 +63,7 @@ pub fn import<R: Rig + Drop, D: Disk, I: Source, O: Sink, C: Clock>(
             }
         }
         Err(stop) => {
-            let (status, disk) = close_unopened(alloc, stop, out);
+            let CallEnd { status, disk } = close_unopened(alloc, stop, out);
             RunDone {
                 status,
                 rig: None,

@@ -16,11 +16,11 @@ use Rattle.ledger.specs.Opening.{Opening, found, no_journal, bad_record, failed,
 use Rattle.ledger.specs.declared.stop.MountStop.{MountStop}
 use Rattle.ledger.specs.declared.stop.MountStop.TheVariants as mount
 use Rattle.station.specs.View.{StationState}
+use Rattle.unopened.specs.Refused.{refused_status}
 use Rattle.script.specs.Growth.{IsPrefix, KeepsBetween}
 use Rattle.script.specs.Headline.{ScriptHeadline}
 use Rattle.script.specs.Keeping.{ScriptKeeps}
 use Rattle.script.specs.Opened.{RunBegins, IsRunImage, RunHeadline, RunKeeps, IsRefusal}
-use Rattle.script.specs.Refused.{refused_status}
 use Rattle.script.specs.Scene.{Scene, IsScene}
 use Rattle.script.proofs.Growing.{prefix_grown, prefix_and, prefix_self}
 

@@ -12,6 +12,5 @@ pub mod RigLines
 pub mod Ran
 pub mod Causes
 pub mod Keeping
-pub mod Refused
 pub mod Opened
 pub mod Shown

@@ -1,6 +1,7 @@
 -- A run: the opening of the journal, and the script behind it.
 use Rattle.std.specs.Prelude.{◌≡◌, ◌⊎◌, ℕ, List, [], ◌∷◌, ◌++◌, Option, Some, ⊤}
 use Rattle.std.specs.Option.{ForSome}
+use Rattle.bench_edge.specs.Whole.{WroteFront}
 use Rattle.disk_edge.specs.Disk.{DiskState, LeavesOnly}
 use Rattle.rig.specs.RigState.{RigState}
 use Rattle.wirelist.specs.declared.program.Program.{Program}
@@ -11,12 +12,11 @@ use Rattle.journal.specs.Journal.{KeepsLimit}
 use Rattle.ledger.specs.Kept.{Covers, IsImageOf}
 use Rattle.ledger.specs.Opening.{Opening, found, no_journal, bad_record, failed, no_memory, Opens, BeginsSound}
 use Rattle.station.specs.View.{StationState}
+use Rattle.unopened.specs.Refused.{refused_status, refused_line}
 use Rattle.script.specs.Growth.{KeepsBetween}
 use Rattle.script.specs.Headline.{ScriptHeadline}
 use Rattle.script.specs.Keeping.{ScriptKeeps}
 use Rattle.script.specs.Ran.{ScriptRan}
-use Rattle.script.specs.Refused.{refused_status, refused_line}
-use Rattle.script.specs.Saying.{WritesFront}
 use Rattle.script.specs.Scene.{Scene}
 
 -- what is told as a run begins: what the rig says of each unit, what the output got, the moments, and the script
@@ -73,6 +73,6 @@ pub record RunRefused (began : DiskState) (got moments left : Option (List ℕ))
   pub refusal : IsRefusal why
   pub opens : Opens began ended why
   pub status_is : status ≡ refused_status why
-  pub wrote : WritesFront (refused_line why) got got'
+  pub wrote : WroteFront got got' (refused_line why)
   pub left_is : left' ≡ left
   pub moments_are : moments' ≡ moments

@@ -1,8 +1,8 @@
 //! A script of commands to the station: read line by line, and each command answered before the next line is read.
 //!
 //! - [`answer_command`] answers one line: it asks the clock once, applies the command, and writes the answer's line.
-//! - [`run_script`] answers the lines of a script in order, and writes the closing line. [`run`] opens the journal before it.
-//!   [`close_unopened`] ends a call whose journal was not opened.
+//! - [`run_script`] answers the lines of a script in order, and writes the closing line. [`run`] opens the journal before it, and
+//!   where it is not opened ends as every call does (the crate unopened).
 //!
 //! What [`run_script`] promises, where the parts that a clause speaks of tell what they do:
 //!
@@ -26,11 +26,9 @@
 
 mod answering;
 mod opening;
-mod refusing;
 mod script;
 mod writing;
 
 pub use answering::{RunEnd, answer_command};
 pub use opening::{RunDone, run};
-pub use refusing::close_unopened;
 pub use script::run_script;

@@ -7,12 +7,13 @@ ghost use Rattle.ledger.specs.Opening.{Says, found};
 ghost use Rattle.script.specs.Causes.{counts, Causes, Completes};
 ghost use Rattle.script.specs.Opened.{RunOpened, RunRefused};
 
-use crate::{RunEnd, close_unopened, run_script};
+use crate::{RunEnd, run_script};
 use bench_edge::{Clock, Sink, Source};
 use disk_edge::Disk;
 use rig::Rig;
 use station::Station;
 use std::alloc::Global;
+use unopened::{CallEnd, close_unopened};
 use wirelist::Program;
 
 /// How a run ended: its status, the rig, which a refused opening drops, and the disk.
@@ -66,7 +67,7 @@ pub fn run<R: Rig + Drop, D: Disk, I: Source, O: Sink, C: Clock>(
             }
         }
         Err(stop) => {
-            let (status, disk) = close_unopened(alloc, stop, out);
+            let CallEnd { status, disk } = close_unopened(alloc, stop, out);
             RunDone {
                 status,
                 rig: None,

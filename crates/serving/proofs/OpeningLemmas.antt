@@ -1,6 +1,7 @@
 -- A serving from its opening on.
 use Rattle.std.proofs.Common.{◌≡◌, ◌⊎◌, ⊎_elim, inl, inr, refl, sym, subst, arith, ℕ, ◌≤◌, List, [], Some}
 use Rattle.base.specs.Causes.{Rose}
+use Rattle.bench_edge.specs.Whole.{WroteFront}
 use Rattle.disk_edge.specs.Disk.{DiskState}
 use Rattle.rig.specs.RigState.{RigState}
 use Rattle.wirelist.specs.declared.program.Program.{Program}
@@ -11,9 +12,8 @@ use Rattle.ledger.specs.Opening.{Opening, found, no_journal, bad_record, failed,
 use Rattle.ledger.specs.declared.stop.MountStop.{MountStop}
 use Rattle.ledger.specs.Ledger.{Tells}
 use Rattle.station.specs.View.{StationState, IsStanding, IsTold}
+use Rattle.unopened.specs.Refused.{refused_status, refused_line}
 use Rattle.script.specs.Opened.{IsRefusal}
-use Rattle.script.specs.Refused.{refused_status, refused_line}
-use Rattle.script.specs.Saying.{WritesFront}
 use Rattle.script.proofs.Growing.{prefix_and}
 use Rattle.script.proofs.Openings.{is_refusal, refused_complete, run_found, run_images, run_limit, run_tells}
 use Rattle.serving.specs.Completes.{Completes}
@@ -168,7 +168,7 @@ module _ {D : Type 0} (disk_state : D → DiskState) (began : DiskState) (stop :
   stop-opens : Opens began (disk_state disk) (refused stop)
   stop-opens = subst (λ (d : D). Opens began (disk_state d) (refused stop)) (sym disk_is) opens
 
-  pub stop-refused : (old new : Around) → WritesFront (refused_line (refused stop)) old.got new.got → new.waiting ≡ old.waiting → new.done ≡ old.done → new.moments ≡ old.moments
+  pub stop-refused : (old new : Around) → WroteFront old.got new.got (refused_line (refused stop)) → new.waiting ≡ old.waiting → new.done ≡ old.done → new.moments ≡ old.moments
       → ServeRefused began old status (disk_state disk) new
   stop-refused old new wrote waiting done moments =
       record {

@@ -3,6 +3,7 @@
 --     ServeOpened ..      it was opened, and the door listened or did not
 use Rattle.std.specs.Prelude.{◌≡◌, ◌⊎◌, ℕ, List, Option}
 use Rattle.std.specs.Option.{ForSome}
+use Rattle.bench_edge.specs.Whole.{WroteFront}
 use Rattle.disk_edge.specs.Disk.{DiskState, LeavesOnly}
 use Rattle.door_edge.specs.Doors.{Talk}
 use Rattle.journal.specs.Format.{IsSound}
@@ -15,9 +16,8 @@ use Rattle.records.specs.declared.record.StationRecord.{StationRecord}
 use Rattle.ledger.specs.Opening.{Opening, Opens, BeginsSound, found}
 use Rattle.ledger.specs.Ledger.{Tells}
 use Rattle.station.specs.View.{StationState, IsTold}
+use Rattle.unopened.specs.Refused.{refused_status, refused_line}
 use Rattle.script.specs.Opened.{IsRefusal, IsRunImage}
-use Rattle.script.specs.Refused.{refused_status, refused_line}
-use Rattle.script.specs.Saying.{WritesFront}
 use Rattle.serving.specs.Counted.{AnswersWithin, TestsSpend}
 use Rattle.serving.specs.InTurn.{ServesTold}
 use Rattle.serving.specs.Tallied.{ServingShows}
@@ -53,7 +53,7 @@ pub record ServeRefused (began : DiskState) (old : Around) (status : ℕ) (ended
   pub refusal : IsRefusal why
   pub opens : Opens began ended why
   pub status_is : status ≡ refused_status why
-  pub wrote : WritesFront (refused_line why) old.got new.got
+  pub wrote : WroteFront old.got new.got (refused_line why)
   pub waiting : new.waiting ≡ old.waiting
   pub done : new.done ≡ old.done
   pub moments : new.moments ≡ old.moments

@@ -13,9 +13,10 @@ use bench_edge::{Clock, Sink};
 use disk_edge::Disk;
 use door_edge::Door;
 use rig::Rig;
-use script::{RunDone, RunEnd, close_unopened};
+use script::{RunDone, RunEnd};
 use station::Station;
 use std::alloc::Global;
+use unopened::{CallEnd, close_unopened};
 use wirelist::Program;
 
 /// Opens the journal on a disk, listens on a port, and serves so many connections.
@@ -72,7 +73,7 @@ pub fn serve<R: Rig + Drop, D: Disk, O: Sink, C: Clock, N: Door>(
             }
         }
         Err(stop) => {
-            let (status, disk) = close_unopened(alloc, stop, out);
+            let CallEnd { status, disk } = close_unopened(alloc, stop, out);
             RunDone {
                 status,
                 rig: None,

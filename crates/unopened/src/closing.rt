@@ -44,7 +44,7 @@ pub fn close_unopened<D, O: Sink>(alloc: Global, stop: MountStop<D>, out: &mut O
             CallEnd { status: 5, disk }
         }
         MountStop::Disk(disk) => {
-            close(out, Bytes::from_slice(alloc, b"disk fault\n"));
+            say(out, b"disk fault\n");
             CallEnd { status: 8, disk }
         }
         MountStop::Memory(disk) => {
@@ -54,12 +54,20 @@ pub fn close_unopened<D, O: Sink>(alloc: Global, stop: MountStop<D>, out: &mut O
     }
 }
 
-/// Writes a closing line, or a front of it: what fails here changes nothing.
+/// Writes a closing line that was made, or a front of it: what fails here changes nothing.
 fn close<O: Sink>(out: &mut O, line: Result<Bytes, Memory>)
     ensures line { (text : List ℕ) → IfOk line (λ l. l ≡ text) → WroteFront (O.got out.old) (O.got out.new) text }
     ensures later { O.write_faults out.old ≤ O.write_faults out.new }
 {
     if let Ok(line) = line {
-        let _ = write_all(out, line.as_slice());
+        say(out, line.as_slice());
     }
+}
+
+/// Writes a closing line, or a front of it: a failed write changes nothing.
+fn say<O: Sink>(out: &mut O, line: &[u8])
+    ensures line { WroteFront (O.got out.old) (O.got out.new) line.now }
+    ensures later { O.write_faults out.old ≤ O.write_faults out.new }
+{
+    let _ = write_all(out, line);
 }
