@@ -4,6 +4,7 @@
 --     IsMeasuring a b v t leak run   an application of two groups at v volts for t ticks, with one leak read
 --     Measures ..                    one was made
 --     HvStopped ..                   why none was made, and how the rig was left
+--     KeepsPartition classes stop    what a stop hands back has this partition
 use Rattle.std.specs.Prelude.{◌≡◌, ◌+◌, ◌/◌, ◌<◌, ◌≤◌, ◌⊎◌, ℕ, Bool, true, false, List, []}
 use Rattle.std.specs.Prelude.{◌∷◌, ◌++◌, All, Option, Some, None, Result, Ok, Err, IsTrue, IsFalse, IfSome, ⊤}
 use Rattle.base.specs.Causes.{Rose}
@@ -158,6 +159,15 @@ HvStopped state bonds old (RigWhileSafe safe) = StopsAtRest bonds old (state saf
 HvStopped state bonds old (RigBefore proven) = StopsAtRest bonds old (state proven.rig) (Some Failed)
 HvStopped state bonds old (NotZero stuck) = StopsStuck bonds old (state stuck)
 HvStopped state bonds old (Memory rig) = StopsAtRest bonds old (state rig) None
+
+-- the proven or safe unit that a stop hands back has this partition
+abbrev pub KeepsPartition : {R : Type 0} → List ℕ → HvStop R → Type 0
+KeepsPartition classes (InterlockOpen safe) = safe.partition ≡ classes
+KeepsPartition classes (NotDischarged safe v) = safe.partition ≡ classes
+KeepsPartition classes (RigWhileSafe safe) = safe.partition ≡ classes
+KeepsPartition classes (RigBefore proven) = proven.partition ≡ classes
+KeepsPartition classes (NotZero stuck) = ⊤
+KeepsPartition classes (Memory rig) = ⊤
 
 -- ---- the parts of an application
 

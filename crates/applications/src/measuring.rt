@@ -1,9 +1,9 @@
 //! One application of a voltage between two groups.
 
-ghost use Rattle.std.specs.Prelude.{◌≡◌, ◌%◌, ◌<◌, ◌≤◌, IfOk, IfErr};
+ghost use Rattle.std.specs.Prelude.{◌≡◌, ◌%◌, ◌<◌, ◌≤◌, IfOk, IfErr, MatchResult};
 ghost use Rattle.partition.specs.Partitions.{JoinsAllOf, Meets};
 ghost use Rattle.rig.specs.Calls.{AreGroups};
-ghost use Rattle.applications.specs.Measuring.{Finishes, FinishStops, HvStopped, Measures, Starts};
+ghost use Rattle.applications.specs.Measuring.{Finishes, FinishStops, HvStopped, KeepsPartition, Measures, Starts};
 
 use crate::HvStop;
 use crate::holding::hold;
@@ -35,7 +35,7 @@ pub fn measure<R: Rig>(
     requires most { volts ≤ 2000 }
     ensures ok { IfOk result (λ m. Measures bonds.now (R.state proven.rig) (R.state m.proven.rig) a.now b.now volts ticks m.leak) }
     ensures err { IfErr result (HvStopped R.state bonds.now (R.state proven.rig)) }
-    ensures partition { IfOk result (λ m. m.proven.partition ≡ proven.partition) }
+    ensures partition { MatchResult result (λ m. m.proven.partition ≡ proven.partition) (KeepsPartition proven.partition) }
 {
     let mut live = start(alloc, proven, bonds, a, b)?;
     let held = hold(&mut live, volts, ticks);
@@ -58,7 +58,7 @@ pub(crate) fn start<R: Rig>(
     requires apart { Meets bonds.now a.now b.now → ⊥ }
     ensures ok { IfOk result (λ live. Starts (R.state proven.rig) (R.state live.rig) a.now b.now) }
     ensures err { IfErr result (HvStopped R.state bonds.now (R.state proven.rig)) }
-    ensures partition { IfOk result (λ live. live.partition ≡ proven.partition) }
+    ensures partition { MatchResult result (λ live. live.partition ≡ proven.partition) (KeepsPartition proven.partition) }
 {
     let _partition = proven.partition();
     let permit = match proven.permit(alloc, bonds) {
@@ -76,7 +76,7 @@ pub(crate) fn start<R: Rig>(
 fn finish<R: Rig>(safe: Safe<R>, held: Result<Leak, RaiseStop>) -> Result<Measured<R>, HvStop<R>>
     ensures ok { IfOk result (λ m. Finishes (R.state safe.rig) (R.state m.proven.rig) held m.leak) }
     ensures err { IfErr result (FinishStops R.state (R.state safe.rig) held) }
-    ensures partition { IfOk result (λ m. m.proven.partition ≡ safe.partition) }
+    ensures partition { MatchResult result (λ m. m.proven.partition ≡ safe.partition) (KeepsPartition safe.partition) }
 {
     match held {
         Ok(leak) => discharge(safe, leak),
@@ -90,7 +90,7 @@ fn finish<R: Rig>(safe: Safe<R>, held: Result<Leak, RaiseStop>) -> Result<Measur
 fn discharge<R: Rig>(safe: Safe<R>, leak: Leak) -> Result<Measured<R>, HvStop<R>>
     ensures ok { IfOk result (λ m. Finishes (R.state safe.rig) (R.state m.proven.rig) (Ok leak) m.leak) }
     ensures err { IfErr result (FinishStops R.state (R.state safe.rig) (Ok leak)) }
-    ensures partition { IfOk result (λ m. m.proven.partition ≡ safe.partition) }
+    ensures partition { MatchResult result (λ m. m.proven.partition ≡ safe.partition) (KeepsPartition safe.partition) }
 {
     match safe.discharge() {
         Ok(proven) => Ok(Measured { proven, leak }),

@@ -4,7 +4,7 @@ ghost use Rattle.std.specs.Prelude.{◌≡◌, ◌*◌, ◌/◌, ◌%◌, ◌<�
 ghost use Rattle.partition.specs.Partitions.{JoinsAllOf};
 ghost use Rattle.applications.specs.Counting.{TalliesMore};
 ghost use Rattle.applications.specs.Each.{AreSides, MeasuresEach};
-ghost use Rattle.applications.specs.Measuring.{HvStopped};
+ghost use Rattle.applications.specs.Measuring.{HvStopped, KeepsPartition};
 ghost use Rattle.applications.specs.Ordered.{IsInOrder, StopsInOrder};
 
 use crate::{HvStop, Measured, Sides, measure};
@@ -38,7 +38,7 @@ pub fn measure_each<R: Rig>(
         MatchResult result (λ done. IsInOrder classes bonds.now (R.state done.proven.rig)) (StopsInOrder R.state classes bonds.now) }
     ensures tallies { let n = length pairs.now in
         IfOk result (λ done. TalliesMore n (n * (volts / 50)) (n * ticks) n (R.state proven.rig) (R.state done.proven.rig)) }
-    ensures partition { IfOk result (λ done. done.proven.partition ≡ proven.partition) }
+    ensures partition { MatchResult result (λ done. done.proven.partition ≡ proven.partition) (KeepsPartition proven.partition) }
 {
     let _point_count = proven.points();
     let _partition = proven.partition();
@@ -61,7 +61,7 @@ fn measure_in_order<R: Rig>(
     requires most { volts ≤ 2000 }
     ensures ok { IfOk result (λ done. MeasuresEach bonds.now (R.state proven.rig) (R.state done.proven.rig) pairs.now volts ticks done.leaks.items) }
     ensures err { IfErr result (HvStopped R.state bonds.now (R.state proven.rig)) }
-    ensures partition { IfOk result (λ done. done.proven.partition ≡ proven.partition) }
+    ensures partition { MatchResult result (λ done. done.proven.partition ≡ proven.partition) (KeepsPartition proven.partition) }
 {
     let mut proven = proven;
     let mut leaks = Vec::new(alloc);

@@ -1,9 +1,9 @@
 //! One application of a voltage between two groups that the unit is to withstand.
 
-ghost use Rattle.std.specs.Prelude.{◌≡◌, ◌≤◌, IfOk, IfErr, Ok};
+ghost use Rattle.std.specs.Prelude.{◌≡◌, ◌≤◌, IfOk, IfErr, MatchResult, Ok};
 ghost use Rattle.partition.specs.Partitions.{JoinsAllOf, Meets};
 ghost use Rattle.rig.specs.Calls.{AreGroups};
-ghost use Rattle.applications.specs.Measuring.{Finishes, FinishStops, HvStopped};
+ghost use Rattle.applications.specs.Measuring.{Finishes, FinishStops, HvStopped, KeepsPartition};
 ghost use Rattle.applications.specs.Enduring.{IsEndurance};
 ghost use Rattle.applications.specs.Standing.{Stands};
 
@@ -35,7 +35,7 @@ pub fn stand<R: Rig>(
     requires test { IsEndurance test }
     ensures ok { IfOk result (λ m. Stands bonds.now (R.state proven.rig) (R.state m.proven.rig) a.now b.now test m.broken) }
     ensures err { IfErr result (HvStopped R.state bonds.now (R.state proven.rig)) }
-    ensures partition { IfOk result (λ m. m.proven.partition ≡ proven.partition) }
+    ensures partition { MatchResult result (λ m. m.proven.partition ≡ proven.partition) (KeepsPartition proven.partition) }
 {
     let mut live = start(alloc, proven, bonds, a, b)?;
     let held = endure(&mut live, test);
@@ -52,7 +52,7 @@ fn conclude<R: Rig>(
 ) -> Result<Applied<R>, HvStop<R>>
     ensures ok { IfOk result (λ m. Finishes (R.state safe.rig) (R.state m.proven.rig) held m.broken) }
     ensures err { IfErr result (FinishStops R.state (R.state safe.rig) held) }
-    ensures partition { IfOk result (λ m. m.proven.partition ≡ safe.partition) }
+    ensures partition { MatchResult result (λ m. m.proven.partition ≡ safe.partition) (KeepsPartition safe.partition) }
 {
     match held {
         Ok(broken) => discharge(safe, broken),
@@ -66,7 +66,7 @@ fn conclude<R: Rig>(
 fn discharge<R: Rig>(safe: Safe<R>, broken: Option<Breakdown>) -> Result<Applied<R>, HvStop<R>>
     ensures ok { IfOk result (λ m. Finishes (R.state safe.rig) (R.state m.proven.rig) (Ok broken) m.broken) }
     ensures err { IfErr result (FinishStops R.state (R.state safe.rig) (Ok broken)) }
-    ensures partition { IfOk result (λ m. m.proven.partition ≡ safe.partition) }
+    ensures partition { MatchResult result (λ m. m.proven.partition ≡ safe.partition) (KeepsPartition safe.partition) }
 {
     match safe.discharge() {
         Ok(proven) => Ok(Applied { proven, broken }),

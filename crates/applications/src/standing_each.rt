@@ -4,7 +4,7 @@ ghost use Rattle.std.specs.Prelude.{◌≡◌, length, All, IfOk, IfErr, MatchRe
 ghost use Rattle.partition.specs.Partitions.{JoinsAllOf};
 ghost use Rattle.applications.specs.Each.{AreSides, HasStoodTallies, StandsEach};
 ghost use Rattle.applications.specs.Enduring.{IsEndurance};
-ghost use Rattle.applications.specs.Measuring.{HvStopped};
+ghost use Rattle.applications.specs.Measuring.{HvStopped, KeepsPartition};
 ghost use Rattle.applications.specs.Ordered.{IsInOrder, StopsInOrder};
 
 use crate::{Applied, Breakdown, Endurance, HvStop, Sides, stand};
@@ -41,7 +41,7 @@ pub fn stand_each<R: Rig>(
     ensures voltage { let classes = proven.partition in IsInOrder classes bonds.now (R.state proven.rig) →
         MatchResult result (λ done. IsInOrder classes bonds.now (R.state done.proven.rig)) (StopsInOrder R.state classes bonds.now) }
     ensures tallies { IfOk result (λ done. HasStoodTallies (R.state proven.rig) (R.state done.proven.rig) (length pairs.now) test done.failed) }
-    ensures partition { IfOk result (λ done. done.proven.partition ≡ proven.partition) }
+    ensures partition { MatchResult result (λ done. done.proven.partition ≡ proven.partition) (KeepsPartition proven.partition) }
 {
     let _point_count = proven.points();
     let _partition = proven.partition();
@@ -61,7 +61,7 @@ fn stand_in_order<R: Rig>(
     requires test { IsEndurance test }
     ensures ok { IfOk result (λ done. StandsEach bonds.now (R.state proven.rig) (R.state done.proven.rig) pairs.now test done.failed) }
     ensures err { IfErr result (HvStopped R.state bonds.now (R.state proven.rig)) }
-    ensures partition { IfOk result (λ done. done.proven.partition ≡ proven.partition) }
+    ensures partition { MatchResult result (λ done. done.proven.partition ≡ proven.partition) (KeepsPartition proven.partition) }
 {
     let mut proven = proven;
     for (i, pair) in pairs.iter().enumerate() {

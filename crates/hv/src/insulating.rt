@@ -7,7 +7,7 @@ ghost use Rattle.wirelist.specs.Clusters.{cluster_classes, cluster_count};
 ghost use Rattle.wirelist.specs.Programs.{IsProgram};
 ghost use Rattle.wirelist.specs.Ranges.{LeakFaultsInRange};
 ghost use Rattle.applications.specs.Counting.{TalliesMore};
-ghost use Rattle.applications.specs.Measuring.{HvStopped};
+ghost use Rattle.applications.specs.Measuring.{HvStopped, KeepsPartition};
 ghost use Rattle.applications.specs.Ordered.{IsInOrder, StopsAtZero, StopsInOrder};
 ghost use Rattle.hv.specs.Alone.{IsUntouched};
 ghost use Rattle.hv.specs.Insulating.{AreStated, Insulates, faults_at, faults_from, too_leaky};
@@ -52,7 +52,7 @@ pub fn insulation<R: Rig>(
     ensures tallies { let n = tested_clusters (cluster_count p.now) in
         IfOk result (λ done. IfSome p.now.insulation (λ test.
         TalliesMore n (n * (test.volts / 50)) (n * test.ticks) n (R.state proven.rig) (R.state done.proven.rig))) }
-    ensures partition { IfOk result (λ done. done.proven.partition ≡ proven.partition) }
+    ensures partition { MatchResult result (λ done. done.proven.partition ≡ proven.partition) (KeepsPartition proven.partition) }
     // with one cluster nothing is done
     ensures alone { cluster_count p.now ≤ 1 → MatchResult result (λ done. done.proven ≡ proven) (IsUntouched proven.rig) }
 {
@@ -75,7 +75,7 @@ fn measure_clusters<R: Rig>(
         Insulates p.now test (R.state proven.rig) (R.state done.proven.rig) done.faults)) }
     ensures err { IfErr result (HvStopped R.state (cluster_classes p.now) (R.state proven.rig)) }
     ensures readings { IfOk result (λ done. AreStated done.faults) }
-    ensures partition { IfOk result (λ done. done.proven.partition ≡ proven.partition) }
+    ensures partition { MatchResult result (λ done. done.proven.partition ≡ proven.partition) (KeepsPartition proven.partition) }
     ensures alone { cluster_count p.now ≤ 1 → MatchResult result (λ done. done.proven ≡ proven) (IsUntouched proven.rig) }
 {
     let test = p.insulation.unwrap();

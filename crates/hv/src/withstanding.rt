@@ -6,7 +6,7 @@ ghost use Rattle.rig.specs.States.{IsOfRig};
 ghost use Rattle.wirelist.specs.Clusters.{cluster_classes, cluster_count};
 ghost use Rattle.wirelist.specs.Programs.{IsProgram};
 ghost use Rattle.wirelist.specs.Ranges.{IsReading};
-ghost use Rattle.applications.specs.Measuring.{HvStopped};
+ghost use Rattle.applications.specs.Measuring.{HvStopped, KeepsPartition};
 ghost use Rattle.applications.specs.Ordered.{IsInOrder, StopsAtZero, StopsInOrder};
 ghost use Rattle.hv.specs.Alone.{IsUntouched};
 ghost use Rattle.hv.specs.Withstanding.{FaultInRange, StatesReading, Withstands, WithstandTallies, fault_of};
@@ -56,7 +56,7 @@ pub fn withstand<R: Rig>(
     ensures in_range { IfOk result (λ done. IfSome done.failed FaultInRange) }
     ensures tallies { IfOk result (λ done. IfSome p.now.withstand (λ test.
         WithstandTallies p.now test (R.state proven.rig) (R.state done.proven.rig) done.failed)) }
-    ensures partition { IfOk result (λ done. done.proven.partition ≡ proven.partition) }
+    ensures partition { MatchResult result (λ done. done.proven.partition ≡ proven.partition) (KeepsPartition proven.partition) }
     // with one cluster nothing is done
     ensures alone { cluster_count p.now ≤ 1 → MatchResult result (λ done. done.proven ≡ proven) (IsUntouched proven.rig) }
 {
@@ -80,7 +80,7 @@ fn stand_bits<R: Rig>(
         Withstands p.now test (R.state proven.rig) (R.state done.proven.rig) done.failed)) }
     ensures err { IfErr result (HvStopped R.state (cluster_classes p.now) (R.state proven.rig)) }
     ensures readings { IfOk result (λ done. IfSome done.failed StatesReading) }
-    ensures partition { IfOk result (λ done. done.proven.partition ≡ proven.partition) }
+    ensures partition { MatchResult result (λ done. done.proven.partition ≡ proven.partition) (KeepsPartition proven.partition) }
     ensures alone { cluster_count p.now ≤ 1 → MatchResult result (λ done. done.proven ≡ proven) (IsUntouched proven.rig) }
 {
     let _net_count = p.nets.count();
