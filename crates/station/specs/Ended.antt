@@ -1,5 +1,5 @@
 -- How a command ends.
-use Rattle.std.specs.Prelude.{◌≡◌, true, List, [], ◌∷◌, ◌++◌, Result, Ok, Err, IfSome, ⊤}
+use Rattle.std.specs.Prelude.{◌≡◌, ◌+◌, true, List, [], ◌∷◌, ◌++◌, length, Result, Ok, Err, IfSome, ⊤}
 use Rattle.base.specs.Causes.{Rose}
 use Rattle.disk_edge.specs.Disk.{DiskState, LeavesOnly, EachImage}
 use Rattle.rig.specs.RigState.{RigState}
@@ -8,12 +8,15 @@ use Rattle.records.specs.declared.record.StationRecord.{StationRecord}
 use Rattle.ledger.specs.Kept.{IsImageOf, IsImageOfEither}
 use Rattle.station.specs.declared.answer.Answer.{Answer}
 use Rattle.station.specs.declared.answer.Answer.TheVariants as answer
-use Rattle.station.specs.declared.answer.Refused.TheVariants.{Full}
+use Rattle.serials.specs.declared.decision.Decision.{Decision}
+use Rattle.serials.specs.declared.decision.Decision.TheVariants as decision
+use Rattle.station.specs.declared.answer.Refused.{Refused}
+use Rattle.station.specs.declared.answer.Refused.TheVariants as refused
 use Rattle.station.specs.declared.station.StepDone.{StepDone}
 use Rattle.station.specs.declared.stops.StepStop.{StepStop}
 use Rattle.station.specs.declared.stops.StepStop.TheVariants.{Disk, NotZero, Memory}
 use Rattle.station.specs.View.{StationState}
-use Rattle.station.specs.Step.{Reply, answered, not_at_zero, keeps}
+use Rattle.station.specs.Step.{Reply, answered, not_at_zero, keeps, verdict_in}
 
 -- a reply and the station behind it; three failed zero calls, or no reply at all, and the disk
 pub data End : Type 0 where
@@ -56,7 +59,36 @@ Stores R r reply later = (reply ≡ answered (keeps R r).0) × (later ≡ (keeps
 abbrev pub StoredOr : StationState → StationRecord → List StationRecord → Answer → Type 0
 StoredOr old r later (answer.Stored number v) = later ≡ old.records ++ r ∷ []
 StoredOr old r later (answer.Same number v) = ⊥
-StoredOr old r later (answer.No why) = (why ≡ Full) × (old.full ≡ true)
+StoredOr old r later (answer.No why) = (why ≡ refused.Full) × (old.full ≡ true)
+
+-- Whatever the disk tells: a stored record stands behind those before, with its number, and any other answer leaves them.
+abbrev pub LeavesRecords : List StationRecord → List StationRecord → Answer → Type 0
+LeavesRecords before after (answer.Stored number v) = (r : StationRecord) × (after ≡ before ++ r ∷ []) × (number ≡ length before + 1) × (v ≡ verdict_in r.body)
+LeavesRecords before after (answer.Same number v) = after ≡ before
+LeavesRecords before after (answer.No why) = after ≡ before
+
+-- a record is to be kept, or a test to be made
+abbrev pub IsToDo : Decision → Type 0
+IsToDo (decision.Same number) = ⊥
+IsToDo (decision.No r) = ⊥
+IsToDo decision.Keep = ⊤
+IsToDo (decision.Test attempt) = ⊤
+
+-- a test is to be made
+abbrev pub IsToTest : Decision → Type 0
+IsToTest (decision.Test attempt) = ⊤
+IsToTest others = ⊥
+
+abbrev pub RefusesBy : Decision → Refused → Type 0
+RefusesBy d (refused.Rule r) = d ≡ decision.No r
+RefusesBy d refused.Full = IsToDo d
+RefusesBy d others = IsToTest d
+
+-- an answer by the rules is that of the decision, and any other comes only where something is to be done
+abbrev pub AnswersBy : Decision → Answer → Type 0
+AnswersBy d (answer.Stored number v) = IsToDo d
+AnswersBy d (answer.Same number v) = d ≡ decision.Same number
+AnswersBy d (answer.No why) = RefusesBy d why
 
 -- how it ended, by what it answers
 abbrev pub end_of : {R D : Type 0} → (D → DiskState) → Result (StepDone R D) (StepStop R D) → End

@@ -1,11 +1,13 @@
 //! A station: a rig, the records on a disk, and the program.
 
-ghost use Rattle.std.specs.Prelude.{◌≡◌, ℕ, List};
+ghost use Rattle.std.specs.Prelude.{◌≡◌, ℕ, List, IfOk};
 ghost use Rattle.rig.specs.RigState.{RigState};
 ghost use Rattle.wirelist.specs.declared.outcome.Outcome.{Outcome};
 ghost use Rattle.records.specs.declared.record.StationRecord.{StationRecord};
 ghost use Rattle.unit_outcome.specs.Tested.{IsStopped};
 ghost use Rattle.station.specs.Applied.{Applied, LeavesManned, station_of};
+ghost use Rattle.serials.specs.declared.decision.Decision.{Decision};
+ghost use Rattle.station.specs.Ended.{AnswersBy, IsToTest, LeavesRecords};
 ghost use Rattle.station.specs.Step.{Tests};
 ghost use Rattle.station.specs.View.{IsManned, IsStanding};
 
@@ -101,7 +103,8 @@ impl<R: Rig, D: Disk> Station<R, D> {
     ghost use Rattle.station.specs.Commands.{IsAsked};
     ghost use Rattle.station.specs.Step.{Step, StepBy, Tests, decision_at, record_of, test_record};
     ghost use Rattle.station.specs.View.{IsStanding, IsTold, Same};
-    ghost use Rattle.station.specs.Ended.{Ends, disk_after, rig_after, end_of, StopsFor};
+    ghost use Rattle.serials.specs.declared.decision.Decision.TheVariants.{Test};
+    ghost use Rattle.station.specs.Ended.{AnswersBy, Ends, LeavesRecords, disk_after, rig_after, end_of, StopsFor};
     ghost use Rattle.station.specs.RigAfter.{TestOf, RigEnds, VoltageEnds, GrowsTallies, StaysOrKeeps};
 
     /// The records, the first one first.
@@ -140,6 +143,10 @@ impl<R: Rig, D: Disk> Station<R, D> {
         ensures some_step { Tells self.disk → (findings : Findings)
             × Ends self (end_of D.state result) (Step findings self.program self.records c.now now) }
 
+        // Whatever rig and disk tell: but for a stored record the records stay, and an answer by the rules is the decision's.
+        ensures records { IfOk result (λ done. LeavesRecords self.records done.station.records done.answer) }
+        ensures decided { IfOk result (λ done. AnswersBy (decision_at self.program self.records c.now now) done.answer) }
+
         ensures days { IfOk result (λ done. HasDays done.answer) }
         ensures standing { IfOk result (λ done. IsStanding done.station) }
         ensures same { IfOk result (λ done. Same self done.station) }
@@ -169,7 +176,10 @@ impl<R: Rig, D: Disk> Station<R, D> {
         requires moment { moment ≤ last_moment }
         requires decided { IsDecided self.records c.now self.program decision }
         requires days { DecidesDays decision }
-        ensures { Applied R.state D.state (TestOf c.now decision) (λ findings. StepBy findings self.program self.records c.now moment decision) self result }
+        ensures records { IfOk result (λ done. LeavesRecords self.records done.station.records done.answer) }
+        ensures decided { IfOk result (λ done. AnswersBy decision done.answer) }
+        ensures applied { Applied R.state D.state (TestOf c.now decision)
+            (λ findings. StepBy findings self.program self.records c.now moment decision) self result }
     {
         match decision {
             Decision::Same(number) => {
@@ -211,6 +221,7 @@ impl<R: Rig, D: Disk> Station<R, D> {
         requires asked { IsAsked c.now }
         requires moment { moment ≤ last_moment }
         requires no_test { IsNoTest c.now }
+        ensures records { IfOk result (λ done. LeavesRecords self.records done.station.records done.answer) }
         ensures storing { Storing R.state D.state (record_of self.program moment 0 Pass c.now) self result }
         ensures unpowered { self.rig.volts ≡ 0 }
     {
@@ -227,7 +238,8 @@ impl<R: Rig, D: Disk> Station<R, D> {
     // Adds a record, where there is room.
     fn store(self, r: StationRecord) -> Result<StepDone<R, D>, StepStop<R, D>>
         requires { IsRecord r }
-        ensures { Storing R.state D.state r self result }
+        ensures records { IfOk result (λ done. LeavesRecords self.records done.station.records done.answer) }
+        ensures storing { Storing R.state D.state r self result }
     {
         let verdict = verdict_in(&r.body);
         let Station {
@@ -272,7 +284,9 @@ impl<R: Rig, D: Disk> Station<R, D> {
         requires moment { moment ≤ last_moment }
         requires room { self.full ≡ false }
         requires told_room { Tells self.disk → is_full self.records ≡ false }
-        ensures { Applied R.state D.state (λ P. P serial attempt)
+        ensures records { IfOk result (λ done. LeavesRecords self.records done.station.records done.answer) }
+        ensures decided { IfOk result (λ done. AnswersBy (Test attempt) done.answer) }
+        ensures applied { Applied R.state D.state (λ P. P serial attempt)
             (λ findings. Tests self.records (test_record id serial staff attempt moment) (findings serial attempt)) self result }
     {
         let id = named(&id);
@@ -335,8 +349,10 @@ fn stopped<R: Rig, D: Disk>(
     stop: UnitStop<R>,
 ) -> Result<StepDone<R, D>, StepStop<R, D>>
     requires { LeavesManned R.state program stop }
+    ensures records { IfOk result (λ done. LeavesRecords ledger.records done.station.records done.answer) }
+    ensures decided { (d : Decision) → IsToTest d → IfOk result (λ done. AnswersBy d done.answer) }
     // Whatever the rig was before the test, of whatever serial and attempt it was, and whatever record it was to have.
-    ensures { (rig : RigState) (serial : List ℕ) (attempt : ℕ) (made : Outcome → StationRecord)
+    ensures applied { (rig : RigState) (serial : List ℕ) (attempt : ℕ) (made : Outcome → StationRecord)
         → program.nets.points ≡ rig.points → IsStopped R.state program serial attempt rig stop
         → Applied R.state D.state (λ P. P serial attempt) (λ findings. Tests ledger.records made (findings serial attempt))
         (station_of rig ledger program) result }

@@ -22,10 +22,10 @@ returns-clause-tallies g c =
     ∙ ap (λ (m : ℕ). decide c.self.inside.ledger.records c.args.c.now m p) (c.next_moment-moment.ensures.moment ∙ ap (λ (R : List StationRecord). moment_at R c.args.now) (c.as_slice.ensures ∙ c.records.ensures.records))
     ∙ ap (λ (t : StationState). decide t.records c.args.c.now (moment_at t.records c.args.now) t.program) c.self.view_is in
     subst (λ (x : Decision). GrowsTallies (TestOf c.args.c.now x) s.rig (rig_after g.R.Rig.state c.carry_out.result)) is
-    (tallies_grow g.R.Rig.state c.args.c.now d s c.carry_out.result c.carry_out.ensures.rig)
+    (tallies_grow g.R.Rig.state c.args.c.now d s c.carry_out.result c.carry_out.ensures.applied.rig)
 
 pub returns-clause-voltage : goal.returns-clause-voltage
-returns-clause-voltage g c = voltage_ends g.R.Rig.state c.args.c.now c.decide-decision.result c.args.self c.carry_out.result c.carry_out.ensures.rig
+returns-clause-voltage g c = voltage_ends g.R.Rig.state c.args.c.now c.decide-decision.result c.args.self c.carry_out.result c.carry_out.ensures.applied.rig
 
 pub carry_out-requires-clause-days : goal.carry_out-requires-clause-days
 carry_out-requires-clause-days g c =

@@ -5,8 +5,8 @@ use Rattle.station.specs.View.{StationState}
 use Rattle.station.proofs.Applying.{storing_stopped}
 use Rattle.station.proofs.station.Station.store.Goals as goal
 
-pub returns-in-Err-Memory : goal.returns-in-Err-Memory
-returns-in-Err-Memory g c = rw c.in-Err-Memory.field-0-is
+pub returns-in-Err-Memory-clause-storing : goal.returns-in-Err-Memory-clause-storing
+returns-in-Err-Memory-clause-storing g c = rw c.in-Err-Memory.field-0-is
     (let e = rw c.in-Err-Memory.field-0-is at c.in-Err-Memory.ensures in
     let s = station_of (g.R.Rig.state c.self.inside.rig) c.self.inside.ledger c.self.inside.program in
     subst (λ (t : StationState). Storing g.R.Rig.state g.D.Disk.state c.args.r t (Err (Memory c.self.inside.rig c.in-Err-Memory.disk))) c.self.view_is
