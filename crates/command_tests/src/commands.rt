@@ -39,19 +39,23 @@ const DAY: [Row; 12] = [
         "--serial=SN1 unit",
         "",
         0,
-        "UNIT SN1\nstatus released\nenrolled record 2 2024-05-01\ntest record 5 2024-05-01 attempt 1 WIRING opens=1 shorts=0 miswires=0\n  open B: 3\nrework record 6 2024-05-01\ntest record 7 2024-05-01 attempt 2 PASS\nreleased record 8 2024-05-01\n",
+        "UNIT SN1\nstatus released\nenrolled record 2 2024-05-01\n\
+         test record 5 2024-05-01 attempt 1 WIRING opens=1 shorts=0 miswires=0\n  open B: 3\nrework record 6 2024-05-01\n\
+         test record 7 2024-05-01 attempt 2 PASS\nreleased record 8 2024-05-01\n",
     ),
     (
         "report",
         "",
         0,
-        "LOT REPORT\npart P1 revision 1\nenrolled 3\ntested 3\nfirst pass 2\nyield 66.7%\nresults 4 pass 3 wiring 1 parts 0 insulation 0 withstand 0\nreleased 1\nscrapped 0\n",
+        "LOT REPORT\npart P1 revision 1\nenrolled 3\ntested 3\nfirst pass 2\nyield 66.7%\n\
+         results 4 pass 3 wiring 1 parts 0 insulation 0 withstand 0\nreleased 1\nscrapped 0\n",
     ),
     (
         "export",
         "",
         0,
-        "record,date,serial,attempt,verdict,opens,shorts,miswires\n5,2024-05-01,SN1,1,wiring,1,0,0\n7,2024-05-01,SN1,2,pass,0,0,0\n9,2024-05-01,SN2,1,pass,0,0,0\n10,2024-05-01,SN3,1,pass,0,0,0\n",
+        "record,date,serial,attempt,verdict,opens,shorts,miswires\n5,2024-05-01,SN1,1,wiring,1,0,0\n\
+         7,2024-05-01,SN1,2,pass,0,0,0\n9,2024-05-01,SN2,1,pass,0,0,0\n10,2024-05-01,SN3,1,pass,0,0,0\n",
     ),
     ("serve --port 8080 --count 1", "", 11, "network fault\n"),
     ("soak --size 8", "", 0, "soak 8 good PASS bad PASS\n"),

@@ -11,11 +11,13 @@ use std::alloc::Global;
 use std::test::Fail;
 
 const TEST: &str =
-    "POST /tests HTTP/1.1\r\nHost: 127.0.0.1:8080\r\nUser-Agent: curl/8.5.0\r\nAccept: */*\r\nContent-Type: application/json\r\nContent-Length: 26\r\n\r\n{\"id\":\"S1\",\"serial\":\"SN1\"}";
+    "POST /tests HTTP/1.1\r\nHost: 127.0.0.1:8080\r\nUser-Agent: curl/8.5.0\r\nAccept: */*\r\n\
+     Content-Type: application/json\r\nContent-Length: 26\r\n\r\n{\"id\":\"S1\",\"serial\":\"SN1\"}";
 
 /// The same, cut in its body.
 const CUT: &str =
-    "POST /tests HTTP/1.1\r\nHost: 127.0.0.1:8080\r\nUser-Agent: curl/8.5.0\r\nAccept: */*\r\nContent-Type: application/json\r\nContent-Length: 26\r\n\r\n{\"id\":\"S1\"";
+    "POST /tests HTTP/1.1\r\nHost: 127.0.0.1:8080\r\nUser-Agent: curl/8.5.0\r\nAccept: */*\r\n\
+     Content-Type: application/json\r\nContent-Length: 26\r\n\r\n{\"id\":\"S1\"";
 
 const UNKNOWN: &str = "GET /units/SN9 HTTP/1.1\r\n\r\n";
 

@@ -1,5 +1,6 @@
 -- A simulator as contracts see it.
-use Rattle.std.specs.Prelude.{◌≡◌, ◌↔◌, ◌⊎◌, ◌+◌, ◌-◌, ◌^◌, ◌<◌, min, ℕ, Bool, true, false, List, [], Option, Some, None, Result, length, slice_get, option_map, option_and_then, if◌then◌else◌, IfOk, OnErr, ⊤}
+use Rattle.std.specs.Prelude.{◌≡◌, ◌↔◌, ◌⊎◌, ◌+◌, ◌-◌, ◌^◌, ◌<◌, min, ℕ, Bool, true, false, List, []}
+use Rattle.std.specs.Prelude.{Option, Some, None, Result, length, slice_get, option_map, option_and_then, if◌then◌else◌, IfOk, OnErr, ⊤}
 use Rattle.rig.specs.declared.unit.Row.{Row}
 use Rattle.rig.specs.declared.unit.Unit.{Unit as HarnessUnit}
 use Rattle.rig.specs.declared.rig.RigStop.{RigStop}

@@ -4,7 +4,8 @@ ghost use Rattle.std.specs.Prelude.{◌≡◌, ◌≤◌, ◌<◌, ℕ, List, So
 ghost use Rattle.partition.specs.Classes.{class_at};
 ghost use Rattle.partition.specs.Partitions.{IsPartitionOfAll};
 ghost use Rattle.rig.specs.Joins.{IsRowBelow, is_unit, unit_rows};
-ghost use Rattle.rig.specs.Values.{charge_of as charge_in_rows, leads as leads_between, is_element_at, element_at, drop_of as drop_in, crosses as crosses_groups, row_conductance, row_arcs};
+ghost use Rattle.rig.specs.Values.{charge_of as charge_in_rows, leads as leads_between, is_element_at, element_at};
+ghost use Rattle.rig.specs.Values.{drop_of as drop_in, crosses as crosses_groups, row_conductance, row_arcs};
 ghost use Rattle.harness.specs.Rows.{ElementInRange};
 ghost use Rattle.rig_sim.specs.Fixture.{IsPlaceOf, AreMarks, met_by, ohms_by, junction_by, leak_by};
 

@@ -1,6 +1,7 @@
 //! A rig that may lie.
 
-ghost use Rattle.std.specs.Prelude.{◌≡◌, ◌↔◌, ◌≤◌, ◌<◌, ◌-◌, ◌^◌, true, false, Some, None, Err, length, IsTrue, IsOk, IsOkUnless, IfOk, OnOk, OnErr, MatchResult};
+ghost use Rattle.std.specs.Prelude.{◌≡◌, ◌↔◌, ◌≤◌, ◌<◌, ◌-◌, ◌^◌, true, false, Some, None, Err, length};
+ghost use Rattle.std.specs.Prelude.{IsTrue, IsOk, IsOkUnless, IfOk, OnOk, OnErr, MatchResult};
 ghost use Rattle.rig.specs.declared.rig.RigStop.TheVariants.{Failed, Memory as NoMemory};
 ghost use Rattle.rig.specs.declared.rig.SeatAnswer.TheVariants.{Present};
 ghost use Rattle.rig.specs.declared.event.Event.TheVariants.{Route as RouteEvent, Raise, Zero};

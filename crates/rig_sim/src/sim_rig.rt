@@ -266,7 +266,9 @@ impl SimRig {
 
     /// The leak between the groups of the route, at the volts that stand.
     fn read_leak(&self) -> Result<Leak, Memory>
-        ensures { IfOk result (λ leak. IfSome self.now.state.truth (λ rows. IfSome self.now.state.route (λ groups. leak ≡ leak_of rows self.now.state.points groups.left groups.right self.now.state.volts))) }
+        ensures { let now = self.now.state in
+            IfOk result (λ leak. IfSome now.truth (λ rows. IfSome now.route (λ groups.
+            leak ≡ leak_of rows now.points groups.left groups.right now.volts))) }
     {
         match &self.route {
             Some(route) => {

@@ -4,7 +4,8 @@
 --     test_count R, has_wiring R            how many tests the records have, and whether one found a wiring fault
 --     refuses_test said                     E16, E17, E20 or E21
 --     TestsShown                            all of it
-use Rattle.std.specs.Prelude.{◌≡◌, ℕ, ◌+◌, ◌*◌, ◌==◌, ◌&&◌, ◌||◌, Bool, true, false, List, [], ◌∷◌, ◌++◌, bytes_eq, count_by, Option, Some, None, IfSome, IsTrue, ⊤}
+use Rattle.std.specs.Prelude.{◌≡◌, ℕ, ◌+◌, ◌*◌, ◌==◌, ◌&&◌, ◌||◌, Bool, true, false}
+use Rattle.std.specs.Prelude.{List, [], ◌∷◌, ◌++◌, bytes_eq, count_by, Option, Some, None, IfSome, IsTrue, ⊤}
 use Rattle.std.specs.List.{AllByRecursion}
 use Rattle.rig.specs.RigState.{RigState}
 use Rattle.rig.specs.declared.event.Tally.{Tally}

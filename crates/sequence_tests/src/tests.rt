@@ -358,11 +358,15 @@ fn each_seating_has_its_own_tally(rt: HostRuntime) -> Result<(), Fail> {
 
 /// A cable of 24 points with a terminating resistor between two of its nets.
 const CABLE: &str =
-    "part,CABLE24,2\npoints,24\nnet,GND,0,8,16\nnet,P5,1,9,17\nnet,CLK,2,10\nnet,DAT,3,11\nnet,CS,4,12\nnet,INT,5,13\nnet,TX,6,14,18,20\nnet,RX,7,15,19,21\nnet,SHLD,22,23\nresistor,R120,6,7,114000,126000\ninsulation,500,20,100\nwithstand,1500,10,2000\n";
+    "part,CABLE24,2\npoints,24\nnet,GND,0,8,16\nnet,P5,1,9,17\nnet,CLK,2,10\nnet,DAT,3,11\nnet,CS,4,12\nnet,INT,5,13\n\
+     net,TX,6,14,18,20\nnet,RX,7,15,19,21\nnet,SHLD,22,23\nresistor,R120,6,7,114000,126000\ninsulation,500,20,100\n\
+     withstand,1500,10,2000\n";
 
 /// A good unit of it.
 const GOOD_CABLE: &str =
-    "points 24\nunit SN1 1\nwire 0 8\nwire 8 16\nwire 1 9\nwire 9 17\nwire 2 10\nwire 3 11\nwire 4 12\nwire 5 13\nwire 6 14\nwire 14 18\nwire 18 20\nwire 7 15\nwire 15 19\nwire 19 21\nwire 22 23\nresistor 18 19 120400\nleak 0 1 50\ncharge 400 3\nend\n";
+    "points 24\nunit SN1 1\nwire 0 8\nwire 8 16\nwire 1 9\nwire 9 17\nwire 2 10\nwire 3 11\nwire 4 12\nwire 5 13\n\
+     wire 6 14\nwire 14 18\nwire 18 20\nwire 7 15\nwire 15 19\nwire 19 21\nwire 22 23\nresistor 18 19 120400\n\
+     leak 0 1 50\ncharge 400 3\nend\n";
 
 #[test]
 fn a_cable_takes_its_applications(rt: HostRuntime) -> Result<(), Fail> {
