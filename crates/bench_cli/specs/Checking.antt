@@ -16,7 +16,7 @@ use Rattle.bench_cli.specs.Closing.{Sunk, Wrote, WroteSome}
 use Rattle.bench_cli.specs.Findings.{ComparesAll, StopsAmong}
 use Rattle.bench_cli.specs.Run.{Files, Run, Given, nothing, simulator, both}
 use Rattle.bench_cli.specs.Told.{HasRows, HasProgram, Failed, FailedRead, FindsUnit, WiresInForm, Undisturbed, Is}
-use Rattle.bench_cli.specs.UnitWork.{WorksOn, LacksUnit, CountsFault}
+use Rattle.bench_cli.specs.UnitWork.{WorksOn, LacksUnit, CountsFault, ReadsAlone}
 
 -- the points that a program compares, in order
 abbrev pub compared_by : Program → List Compared
@@ -56,6 +56,8 @@ pub record AreInForm (unit : UnitName) (files : Files) (rows : List HarnessRow) 
   pub wires : WiresInForm files rows
 
 pub record IsCheck (unit : UnitName) (run : Run) (status : ℕ) (rig : Option SimState) : Type 0 where
+  -- whatever the status, no voltage was commanded
+  pub unpowered : ReadsAlone rig
   -- 0: the sink got exactly the text, and the trail has exactly the readings
   pub checked : status ≡ 0
       → (sim : SimState) × (trials : List Trial) × (rig ≡ Some sim) × IsChecked unit run.files sim trials × Wrote run.sunk (checked_text trials)

@@ -18,7 +18,7 @@ use Rattle.bench_cli.specs.Closing.{Sunk, Wrote, WroteSome}
 use Rattle.bench_cli.specs.Findings.{LearnsAll, StopsLearning}
 use Rattle.bench_cli.specs.Run.{Files, Run, Given, nothing, simulator, both}
 use Rattle.bench_cli.specs.Told.{HasRows, FailedHarness, FindsUnit, Undisturbed, Is}
-use Rattle.bench_cli.specs.UnitWork.{WorksOn, LacksUnit, CountsFault}
+use Rattle.bench_cli.specs.UnitWork.{WorksOn, LacksUnit, CountsFault, ReadsAlone}
 
 abbrev pub LearnsUnit : UnitName → Given → Sunk → ℕ → Option SimState → Type 0
 LearnsUnit unit nothing sunk status rig = ⊥
@@ -39,6 +39,8 @@ pub record HasLearned (unit : UnitName) (files : Files) (sim : SimState) (classe
   pub at_most : sim.state.spent ≤ most_readings (length classes) (length (heads classes))
 
 pub record IsLearning (unit : UnitName) (run : Run) (status : ℕ) (rig : Option SimState) : Type 0 where
+  -- whatever the status, no voltage was commanded
+  pub unpowered : ReadsAlone rig
   -- 0: the sink got exactly the program of the unit's joins
   pub learned : status ≡ 0
       → (sim : SimState) × (classes : List ℕ) × (rig ≡ Some sim) × HasLearned unit run.files sim classes × Wrote run.sunk (learned_text classes)

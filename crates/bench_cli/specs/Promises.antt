@@ -10,11 +10,13 @@ use Rattle.harness.specs.Harness.{IsHarness, IsRefused}
 use Rattle.rig_sim.specs.SimRig.{SimState}
 use Rattle.wirelist.specs.declared.program.Program.{Program}
 use Rattle.wirelist.specs.declared.refusal.WireRefusal.{WireRefusal}
+use Rattle.records.specs.declared.record.StationRecord.{StationRecord}
+use Rattle.ledger.specs.Opening.{BeginsSound}
 use Rattle.words.specs.declared.command.Command.{Command}
 use Rattle.words.specs.Words.{Asks, IsCommand}
 use Rattle.bench_cli.specs.Commands.{AsksFor, reads_harness, reads_wires, reads_input, uses_disk, uses_clock, uses_door}
 use Rattle.bench_cli.specs.Closing.{Closes, CountsNone, usage_line, read_fault_line}
-use Rattle.bench_cli.specs.Run.{Run, IsUnread, IsShut, most_of_harness, most_of_wires, refusal_line}
+use Rattle.bench_cli.specs.Run.{Run, IsUnread, IsShut, StaysSound, most_of_harness, most_of_wires, refusal_line}
 use Rattle.bench_cli.specs.Told.{TellsHarness, TellsWires, Failed, HasRows, HasRefusal, HasProgram, HasFault, FailedHarness, FailedRead, Is}
 use Rattle.bench_cli.specs.Wires.{IsWirelist, first_refusal, wires_refusal_line, points_differ_line}
 use Rattle.bench_cli.specs.Ends.{Ends}
@@ -46,6 +48,8 @@ pub record IsRun (run : Run) (status : ℕ) (rig : Option SimState) : Type 0 whe
   pub disk_unused : (AsksFor uses_disk run.words → ⊥) → run.disk_after ≡ run.disk
   pub clock_unused : (AsksFor uses_clock run.words → ⊥) → run.moments_after ≡ run.moments
   pub door_unused : (AsksFor uses_door run.words → ⊥) → IsShut run.door
+  -- over a disk whose file is sound, whatever the command and its status, what a crash may leave stays sound
+  pub sound : (file : List ℕ) (R0 : List StationRecord) → BeginsSound run.disk file R0 → StaysSound run.disk run.disk_after
   -- 3 exactly where the harness file is asked for and refused; the line says why
   pub harness_refused : status ≡ 3 → AsksFor reads_harness run.words
       × (refusal : HarnessRefusal) × HasRefusal run.files refusal × Closes run.sunk (refusal_line refusal)

@@ -3,17 +3,19 @@
 --     door_by waiting done faults m n    what a door m that became n had to come and had done, and how often it had failed
 --     Run                        the words, what was read and written, and the disk, the clock and the door, where they tell, before and after
 --     TakesFiles files given     the files that a command reads are in form, and give this
+--     StaysSound old new         what a crash may leave stays sound
 --     StopsAtFiles               the ways in which a run ends where one of them gives nothing
 use Rattle.std.specs.Prelude.{◌≡◌, ◌≢◌, ◌++◌, [], ℕ, Bool, true, false, List, Option, None, Some, codes, decimal, unwrap_or}
 use Rattle.base.specs.Causes.{Rose}
 use Rattle.bench_edge.specs.Whole.{TookFirst, LostFront}
-use Rattle.disk_edge.specs.Disk.{DiskState}
+use Rattle.disk_edge.specs.Disk.{DiskState, LeavesOnly, EachImage}
 use Rattle.door_edge.specs.Doors.{Talk}
 use Rattle.harness.specs.declared.row.HarnessRow.{HarnessRow}
 use Rattle.harness.specs.declared.refusal.HarnessRefusal.{HarnessRefusal}
 use Rattle.harness.specs.Refusals.{number_of, line_of}
 use Rattle.harness.specs.Harness.{IsHarness, IsRefused}
 use Rattle.rig_sim.specs.SimRig.{SimState, IsNew}
+use Rattle.ledger.specs.Kept.{Sound}
 use Rattle.wirelist.specs.declared.program.Program.{Program}
 use Rattle.wirelist.specs.declared.refusal.WireRefusal.{WireRefusal}
 use Rattle.bench_cli.specs.Closing.{Sunk, IsUnasked, ClosesWith, read_fault_line}
@@ -125,6 +127,11 @@ pub record LeavesUnused (reads_input uses_disk uses_clock uses_door : Bool) (run
 -- input, disk, clock and door are left as they were
 abbrev pub LeavesAll : Run → Type 0
 LeavesAll run = LeavesUnused false false false false run
+
+-- A crash at any moment since leaves what might have been left before, or a sound image. Where every image was sound before, every one is.
+pub record StaysSound (old new : DiskState) : Type 0 where
+  pub stopped : LeavesOnly old new Sound
+  pub exit : EachImage old Sound → EachImage new Sound
 
 -- what the files that a command reads give: nothing where it reads none, the simulator of a harness, or that and a program
 pub data Given : Type 0 where

@@ -43,6 +43,8 @@ pub record IsSoaking (n : ℕ) (run : Run) (status : ℕ) (rig : Option SimState
   pub rig_fault : (status ≡ 15) ⊎ (status ≡ 10) → (sim : SimState) × (rig ≡ Some sim) × (0 < sim.state.faults)
   -- the trail of the rig is in the order of high voltage, and ended at zero, or with 10 after three zero calls that failed
   pub in_order : (sim : SimState) → rig ≡ Some sim → IsSoaked n sim.state ⊎ (EndsInOrder n sim.state ⊎ ((status ≡ 10) × EndsStuck n sim.state))
+  -- with 10 it ended after three zero calls that failed
+  pub stuck : status ≡ 10 → (sim : SimState) × (rig ≡ Some sim) × EndsStuck n sim.state
   -- without a failed write, and with counts of the rig that can still rise, the line is written, unless memory runs out
   pub complete : (Rose run.sunk.faults run.sunk.faults_after → ⊥)
       → ((sim : SimState) → rig ≡ Some sim → IsBelowLast sim.state.spent × IsBelowLast sim.state.seats) → Is 0 status

@@ -1,9 +1,11 @@
 -- What the commands on one seated unit have in common.
 --     WorksOn Finds Stops unit sim ..     the work on the unit ended so, and the rig is handed out
 --     LacksUnit unit run                  there is no such unit in the harness file
-use Rattle.std.specs.Prelude.{◌≡◌, ◌<◌, ℕ, List, Option, None, Some}
+--     ReadsAlone rig                      no voltage was ever commanded
+use Rattle.std.specs.Prelude.{◌≡◌, ◌<◌, ℕ, List, [], Option, None, Some}
 use Rattle.rig.specs.RigState.{RigState}
 use Rattle.rig.specs.Joins.{unit_rows}
+use Rattle.rig.specs.Trail.{Extends, IsReading}
 use Rattle.harness.specs.declared.row.HarnessRow.{HarnessRow}
 use Rattle.harness.specs.Units.{units_of}
 use Rattle.rig_sim.specs.SimRig.{SimState}
@@ -31,3 +33,7 @@ pub record CountsFault (run : Run) (rig : Option SimState) : Type 0 where
   pub handed : rig ≡ Some sim
   pub counted : 0 < sim.state.faults
   pub line : Closes run.sunk rig_fault_line
+
+-- of the rig that is handed out the trail has group readings alone: no route was made, and no voltage was commanded
+abbrev pub ReadsAlone : Option SimState → Type 0
+ReadsAlone rig = (sim : SimState) → rig ≡ Some sim → Extends IsReading (Some []) sim.state.trail

@@ -32,6 +32,8 @@ mod wires;
 
 pub use check::check_unit;
 pub use learning::learn_unit;
+pub use script::{RunEnd, run_script};
+pub use serving::serve_all;
 pub use top::{Ended, bench};
 pub use unit::UnitEnded;
 

@@ -36,7 +36,7 @@ pub struct Ended<D> {
 }
 
 /// Does what the words ask: reads the files of the command, does its work and writes what was found, or why there is nothing to write.
-#[tactic(auto, using(crate::proofs::IsRunFacts::is_run))]
+#[tactic(auto, using(crate::proofs::facts::IsRunFacts::is_run))]
 pub fn bench<H: Source, W: Source, I: Source, O: Sink, D: Disk, C: Clock, N: Door>(
     alloc: Global,
     words: &[String],

@@ -13,13 +13,13 @@ use Rattle.script.specs.Ran.{ScriptRan}
 use Rattle.script.specs.Said.{Asked}
 use Rattle.script.specs.Scene.{Scene, IsScene}
 use Rattle.script.specs.Turns.{IsAnswered}
-use Rattle.script.proofs.Closings.{between, ends_between, ends_in_line}
-use Rattle.script.proofs.Exits.{ran_all, ran_between, ran_within}
-use Rattle.script.proofs.History.{Turn, SoFar, all_written, asked-push, asked_of, goes_further, said_of, starts, turn_of}
-use Rattle.script.proofs.Images.{between_all, keeps_between, keeps_within}
-use Rattle.script.proofs.Limits.{limit_all, limit_and, limit_ends, limit_same}
-use Rattle.script.proofs.Told.{told_so_far}
-use Rattle.script.proofs.Written.{writes_nothing}
+use Rattle.script.proofs.answers.Closings.{between, ends_between, ends_in_line}
+use Rattle.script.proofs.on_rig.Exits.{ran_all, ran_between, ran_within}
+use Rattle.script.proofs.answers.History.{Turn, SoFar, all_written, asked-push, asked_of, goes_further, said_of, starts, turn_of}
+use Rattle.script.proofs.disk.Images.{between_all, keeps_between, keeps_within}
+use Rattle.script.proofs.disk.Limits.{limit_all, limit_and, limit_ends, limit_same}
+use Rattle.script.proofs.answers.Told.{told_so_far}
+use Rattle.script.proofs.answers.Written.{writes_nothing}
 use Rattle.importing.specs.RowsAnswered.{RowsHeadline}
 
 -- these rows are answered

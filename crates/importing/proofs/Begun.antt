@@ -12,8 +12,8 @@ use Rattle.script.specs.Keeping.{ScriptKeeps}
 use Rattle.script.specs.Opened.{RunBegins}
 use Rattle.script.specs.Said.{Asked}
 use Rattle.script.specs.Scene.{Scene}
-use Rattle.script.proofs.Growing.{prefix_grown}
-use Rattle.script.proofs.Openings.{run_found, run_images, run_keeps, run_limit, run_tells, scene_of_run}
+use Rattle.script.proofs.disk.Growing.{prefix_grown}
+use Rattle.script.proofs.disk.Openings.{run_found, run_images, run_keeps, run_limit, run_tells, scene_of_run}
 use Rattle.importing.specs.Imported.{ImportBegun, ImportHeadline, ImportOpened}
 use Rattle.importing.specs.Input.{Answered, TakesInput}
 

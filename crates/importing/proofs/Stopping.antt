@@ -7,7 +7,7 @@ use Rattle.ledger.specs.Ledger.{Tells}
 use Rattle.station.specs.View.{StationState}
 use Rattle.script.specs.Causes.{Completes, Counts}
 use Rattle.script.specs.Keeping.{ScriptKeeps}
-use Rattle.script.proofs.Images.{between_all, keeps_between}
+use Rattle.script.proofs.disk.Images.{between_all, keeps_between}
 use Rattle.importing.specs.Input.{stop_status}
 use Rattle.importing.specs.declared.input.InputStop.{InputStop}
 use Rattle.importing.specs.declared.input.InputStop.TheVariants.{Failed, TooLong, Memory}

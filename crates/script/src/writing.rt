@@ -61,7 +61,7 @@ pub(crate) fn close_stop<O: Sink>(alloc: Global, out: &mut O, stop: LineStop, nu
 }
 
 // Writes that a line is too long.
-#[tactic(auto, using(crate::proofs::Written::writes_nothing))]
+#[tactic(auto, using(crate::proofs::answers::Written::writes_nothing))]
 fn close_long<O: Sink>(alloc: Global, out: &mut O, number: u32) -> u8
     ensures status { result ≡ 12 }
     ensures line { WritesFront (closing_line (line_too_long number)) (O.got out.old) (O.got out.new) }

@@ -17,9 +17,9 @@ use Rattle.http_exchange.specs.Replies.{Reply}
 use Rattle.script.specs.RigLines.{is_fault_line, is_door_line, fault_lines, door_lines, LinesWithin}
 use Rattle.script.specs.Said.{Said, replied}
 use Rattle.script.specs.Shown.{NoneRefused}
-use Rattle.script.proofs.History.{Turn, said_of}
-use Rattle.script.proofs.Showing.{shown_all, begins_shown}
-use Rattle.script.proofs.Rigs.{faults_later, opens_later, faults_risen, opens_risen, grown_by, grown_both, grown_all, lines_within}
+use Rattle.script.proofs.answers.History.{Turn, said_of}
+use Rattle.script.proofs.on_rig.Showing.{shown_all, begins_shown}
+use Rattle.script.proofs.on_rig.Rigs.{faults_later, opens_later, faults_risen, opens_risen, grown_by, grown_both, grown_all, lines_within}
 use Rattle.station_http.specs.Turns.{GoesOnWith}
 use Rattle.serving.specs.Counted.{said_by, said_in, said_to, IsStuck, AnswersWithin, TestsSpend}
 use Rattle.serving.specs.Lines.{Closing, status_of}

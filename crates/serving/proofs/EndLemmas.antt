@@ -22,7 +22,7 @@ use Rattle.http_exchange.specs.Replies.{Reply}
 use Rattle.script.specs.Said.{replied}
 use Rattle.script.specs.Turns.{RigGoesOn, DiskGoesOn, Steps}
 use Rattle.script.specs.Ends.{MayEnd}
-use Rattle.script.proofs.Applied.{by_both, lost_may, stuck_steps, rose_stuck}
+use Rattle.script.proofs.answers.Applied.{by_both, lost_may, stuck_steps, rose_stuck}
 use Rattle.station_http.specs.Commanded.{GoesOn, FailedOnDisk, WasStuck, RanOut}
 use Rattle.station_http.specs.Turns.{AreParts, DiskStops, StuckStops, RunsOutWithin, StopsBehind, Stops}
 use Rattle.station_http.specs.Served.{Served, Finishes, StopsOnWriting, IsUnread}

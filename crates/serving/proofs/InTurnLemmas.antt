@@ -14,8 +14,8 @@ use Rattle.station.specs.declared.stops.StepStop.{StepStop}
 use Rattle.station.specs.declared.stops.StepStop.TheVariants.{Disk, NotZero, Memory}
 use Rattle.station.specs.View.{StationState, IsTold, IsStanding}
 use Rattle.script.specs.Growth.{IsPrefix}
-use Rattle.script.proofs.Told.{told_after}
-use Rattle.script.proofs.Written.{appended, Part, part_of}
+use Rattle.script.proofs.answers.Told.{told_after}
+use Rattle.script.proofs.answers.Written.{appended, Part, part_of}
 use Rattle.station_http.specs.ItsReply.{PassesMoment, IsItsReply, IsLastReply, IsServed, KeepsAt, ByFindings, talk_of}
 use Rattle.station_http.proofs.RepliesLemmas.{replied_is, cut_is, stopped_is}
 use Rattle.serving.specs.InTurn.{Connection, as_it_came, IsReplied, ServedInTurn, conn_lines, IsClosing, EndsBehind, ServedAtDoor, ServesTold}

@@ -14,13 +14,13 @@ use Rattle.ledger.specs.Ledger.{Tells}
 use Rattle.station.specs.RigAfter.{StaysInOrder}
 use Rattle.station.specs.View.{StationState, IsStanding}
 use Rattle.script.specs.Growth.{KeepsBetween}
-use Rattle.script.proofs.Growing.{prefix_self}
-use Rattle.script.proofs.History.{Turn, IsHistory}
-use Rattle.script.proofs.Images.{between_all, step_grows}
-use Rattle.script.proofs.Closings.{leaves_more, either_after}
-use Rattle.script.proofs.Limits.{limit_and, limit_all}
-use Rattle.script.proofs.Rigs.{faults_later, stays_in_order, order_all}
-use Rattle.script.proofs.Exits.{program_all}
+use Rattle.script.proofs.disk.Growing.{prefix_self}
+use Rattle.script.proofs.answers.History.{Turn, IsHistory}
+use Rattle.script.proofs.disk.Images.{between_all, step_grows}
+use Rattle.script.proofs.answers.Closings.{leaves_more, either_after}
+use Rattle.script.proofs.disk.Limits.{limit_and, limit_all}
+use Rattle.script.proofs.on_rig.Rigs.{faults_later, stays_in_order, order_all}
+use Rattle.script.proofs.on_rig.Exits.{program_all}
 use Rattle.serving.specs.Lines.{Closing, write_fault, disk_fault, memory, not_at_zero, network_fault, status_of}
 use Rattle.serving.specs.Visits.{Stage, Left, last_stage, Serves}
 use Rattle.serving.specs.Keeping.{is_at_rest, ServingKeeps, InOrderAt}

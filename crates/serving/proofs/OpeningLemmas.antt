@@ -14,8 +14,8 @@ use Rattle.ledger.specs.Ledger.{Tells}
 use Rattle.station.specs.View.{StationState, IsStanding, IsTold}
 use Rattle.unopened.specs.Refused.{refused_status, refused_line}
 use Rattle.script.specs.Opened.{IsRefusal}
-use Rattle.script.proofs.Growing.{prefix_and}
-use Rattle.script.proofs.Openings.{is_refusal, refused_complete, run_found, run_images, run_limit, run_tells}
+use Rattle.script.proofs.disk.Growing.{prefix_and}
+use Rattle.script.proofs.disk.Openings.{is_refusal, refused_complete, run_found, run_images, run_limit, run_tells}
 use Rattle.serving.specs.Completes.{Completes}
 use Rattle.serving.specs.Counted.{AnswersWithin, TestsSpend}
 use Rattle.serving.specs.InTurn.{ServesTold}

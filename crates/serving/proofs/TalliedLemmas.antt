@@ -10,8 +10,8 @@ use Rattle.serials.specs.declared.command.Command.{Command}
 use Rattle.station.specs.View.{StationState, IsStanding}
 use Rattle.script.specs.Shown.{IsShown}
 use Rattle.script.specs.Turns.{RigGoesOn}
-use Rattle.script.proofs.Showing.{goes_on_tallies, shown_all, begins_shown}
-use Rattle.script.proofs.Tallying.{HasTallies}
+use Rattle.script.proofs.on_rig.Showing.{goes_on_tallies, shown_all, begins_shown}
+use Rattle.script.proofs.on_rig.Tallying.{HasTallies}
 use Rattle.serving.specs.Lines.{Closing, status_of}
 use Rattle.serving.specs.Tallied.{ServingShows}
 use Rattle.serving.specs.Visits.{Stage, Left, last_stage, Serves}

@@ -11,8 +11,8 @@ use Rattle.http_exchange.specs.Replies.{Reply}
 use Rattle.door_edge.specs.Doors.{Talk}
 use Rattle.script.specs.Said.{Asked, Said, no_command, replied}
 use Rattle.script.specs.Turns.{IsTurn}
-use Rattle.script.proofs.Applied.{by_both, none_turn, answered_turn}
-use Rattle.script.proofs.History.{Turn, IsHistory}
+use Rattle.script.proofs.answers.Applied.{by_both, none_turn, answered_turn}
+use Rattle.script.proofs.answers.History.{Turn, IsHistory}
 use Rattle.station_http.specs.Turns.{Answers, GoesOnWith}
 use Rattle.serving.specs.Visits.{ServedSo, Stage, Visits, last_stage}
 

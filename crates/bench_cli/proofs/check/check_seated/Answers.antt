@@ -1,6 +1,6 @@
 use Rattle.std.proofs.Common.{Err, ap, refl}
 use Rattle.bench_cli.specs.Findings.{sheet_text}
-use Rattle.bench_cli.proofs.UnitLemmas.{print_ends, fault_ends, memory_ends}
+use Rattle.bench_cli.proofs.ways.UnitLemmas.{print_ends, fault_ends, memory_ends}
 use Rattle.bench_cli.proofs.check.check_seated.Goals as goal
 
 pub returns-in-Ok : goal.returns-in-Ok

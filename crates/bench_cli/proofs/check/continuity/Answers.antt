@@ -1,4 +1,4 @@
-use Rattle.bench_cli.proofs.Obeying.{check_comes}
+use Rattle.bench_cli.proofs.ways.Obeying.{check_comes}
 use Rattle.bench_cli.proofs.check.continuity.Goals as goal
 
 pub returns-in-Ok : goal.returns-in-Ok

@@ -1,5 +1,5 @@
 use Rattle.std.proofs.Common.{◌∙◌}
-use Rattle.bench_cli.proofs.TakingLemmas.{refused_closes}
+use Rattle.bench_cli.proofs.ways.TakingLemmas.{refused_closes}
 use Rattle.bench_cli.proofs.files.end_without_harness.Goals as goal
 
 pub returns-in-Ok : goal.returns-in-Ok

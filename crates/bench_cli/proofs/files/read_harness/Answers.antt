@@ -1,4 +1,4 @@
-use Rattle.bench_cli.proofs.TakingLemmas.{refuses_harness}
+use Rattle.bench_cli.proofs.ways.TakingLemmas.{refuses_harness}
 use Rattle.bench_cli.proofs.files.read_harness.Goals as goal
 
 pub returns : goal.returns

@@ -1,5 +1,5 @@
 use Rattle.std.proofs.Common.{◌∙◌, sym}
-use Rattle.bench_cli.proofs.TakingLemmas.{refusal_line-is}
+use Rattle.bench_cli.proofs.ways.TakingLemmas.{refusal_line-is}
 use Rattle.bench_cli.proofs.files.refusal_text.Goals as goal
 
 pub returns-in_ok-format-in-Some : goal.returns-in_ok-format-in-Some

@@ -1,7 +1,7 @@
 use Rattle.std.proofs.Common.{ap, refl, ◌∙◌}
 use Rattle.learned_program.specs.LearnedProgram.{learned_text}
 use Rattle.bench_cli.specs.Findings.{LearnsAll, StopsLearning}
-use Rattle.bench_cli.proofs.UnitLemmas.{print_ends, fault_ends, memory_ends}
+use Rattle.bench_cli.proofs.ways.UnitLemmas.{print_ends, fault_ends, memory_ends}
 use Rattle.bench_cli.proofs.learning.learn_seated.Goals as goal
 
 pub returns-in-Ok : goal.returns-in-Ok

@@ -1,4 +1,4 @@
-use Rattle.bench_cli.proofs.UnitLemmas.{seated_ends, unseated_ends}
+use Rattle.bench_cli.proofs.ways.UnitLemmas.{seated_ends, unseated_ends}
 use Rattle.bench_cli.proofs.learning.learn_unit.Goals as goal
 
 pub returns-in-Ok : goal.returns-in-Ok

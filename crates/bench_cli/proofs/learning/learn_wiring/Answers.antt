@@ -1,4 +1,4 @@
-use Rattle.bench_cli.proofs.Obeying.{learning_comes}
+use Rattle.bench_cli.proofs.ways.Obeying.{learning_comes}
 use Rattle.bench_cli.proofs.learning.learn_wiring.Goals as goal
 
 pub returns-in-Ok : goal.returns-in-Ok

@@ -2,7 +2,7 @@ use Rattle.std.proofs.Common.{refl}
 use Rattle.words.specs.declared.command.Command.TheVariants.{Run}
 use Rattle.bench_cli.specs.Run.{both}
 use Rattle.bench_cli.specs.Ends.Ends.{stopped, obeyed}
-use Rattle.bench_cli.proofs.Obeying.{script_work}
+use Rattle.bench_cli.proofs.ways.Obeying.{script_work}
 use Rattle.bench_cli.proofs.scripting.run_station.Goals as goal
 
 pub returns-in-Ok : goal.returns-in-Ok

@@ -2,7 +2,7 @@ use Rattle.std.proofs.Common.{refl}
 use Rattle.words.specs.declared.command.Command.TheVariants.{Import}
 use Rattle.bench_cli.specs.Run.{both}
 use Rattle.bench_cli.specs.Ends.Ends.{stopped, obeyed}
-use Rattle.bench_cli.proofs.Obeying.{import_work}
+use Rattle.bench_cli.proofs.ways.Obeying.{import_work}
 use Rattle.bench_cli.proofs.serial_import.import_serials.Goals as goal
 
 pub returns-in-Ok : goal.returns-in-Ok

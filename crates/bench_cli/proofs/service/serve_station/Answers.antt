@@ -2,7 +2,7 @@ use Rattle.std.proofs.Common.{refl}
 use Rattle.words.specs.declared.command.Command.TheVariants.{Serve}
 use Rattle.bench_cli.specs.Run.{both}
 use Rattle.bench_cli.specs.Ends.Ends.{stopped, obeyed}
-use Rattle.bench_cli.proofs.ServeWork.{serve_work}
+use Rattle.bench_cli.proofs.ways.ServeWork.{serve_work}
 use Rattle.bench_cli.proofs.service.serve_station.Goals as goal
 
 pub returns-in-Ok : goal.returns-in-Ok

@@ -1,6 +1,6 @@
 use Rattle.std.proofs.Common.{refl}
 use Rattle.bench_cli.specs.Soaking.SoakEnds.{rig_failed, no_memory}
-use Rattle.bench_cli.proofs.SoakFacts.{stuck_ends}
+use Rattle.bench_cli.proofs.facts.SoakFacts.{stuck_ends}
 use Rattle.bench_cli.proofs.soaking.end_soak.Goals as goal
 
 pub returns-in-RigFault : goal.returns-in-RigFault

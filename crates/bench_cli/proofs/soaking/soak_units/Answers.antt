@@ -2,7 +2,7 @@ use Rattle.std.proofs.Common.{◌∙◌}
 use Rattle.applications.proofs.Together.{IfOk-map}
 use Rattle.soak_pair.specs.Pair.{soak_line}
 use Rattle.bench_cli.specs.Soaking.SoakEnds.{soaked}
-use Rattle.bench_cli.proofs.SoakFacts.{good_countable, bad_countable, line_is}
+use Rattle.bench_cli.proofs.facts.SoakFacts.{good_countable, bad_countable, line_is}
 use Rattle.bench_cli.proofs.soaking.soak_units.Goals as goal
 
 pub line_of-requires-clause-good : goal.line_of-requires-clause-good

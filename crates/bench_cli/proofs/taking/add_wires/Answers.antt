@@ -1,5 +1,5 @@
 use Rattle.std.proofs.Common.{true, refl}
-use Rattle.bench_cli.proofs.TakingLemmas.{ok_more, wires_stop}
+use Rattle.bench_cli.proofs.ways.TakingLemmas.{ok_more, wires_stop}
 use Rattle.bench_cli.proofs.taking.add_wires.Goals as goal
 
 pub returns-in-Ok-clause-takes : goal.returns-in-Ok-clause-takes

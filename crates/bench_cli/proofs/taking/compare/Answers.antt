@@ -1,5 +1,5 @@
 use Rattle.std.proofs.Common.{◌≡◌, true, rules, refl}
-use Rattle.bench_cli.proofs.TakingLemmas.{difference_stops}
+use Rattle.bench_cli.proofs.ways.TakingLemmas.{difference_stops}
 use Rattle.bench_cli.proofs.taking.compare.Goals as goal
 
 pub returns-then-wanted-points-clause-stops : goal.returns-then-wanted-points-clause-stops

@@ -1,4 +1,4 @@
-use Rattle.bench_cli.proofs.TakingLemmas.{harness_stops}
+use Rattle.bench_cli.proofs.ways.TakingLemmas.{harness_stops}
 use Rattle.bench_cli.proofs.taking.take_harness.Goals as goal
 
 pub returns-in-Err-clause-stops : goal.returns-in-Err-clause-stops

@@ -5,7 +5,7 @@ use Rattle.bench_cli.specs.Learning.{LearnsUnit}
 use Rattle.bench_cli.specs.Run.{nothing}
 use Rattle.bench_cli.specs.Ends.Ends.{obeyed}
 use Rattle.reporting.specs.declared.reporting.Report.TheVariants as report
-use Rattle.bench_cli.proofs.Obeying.{comes_ends, disk_alone, report_ends}
+use Rattle.bench_cli.proofs.ways.Obeying.{comes_ends, disk_alone, report_ends}
 use Rattle.bench_cli.proofs.top.obey.Goals as goal
 
 pub returns-in-Continuity : goal.returns-in-Continuity

@@ -1,6 +1,6 @@
 use Rattle.std.proofs.Common.{refl}
 use Rattle.bench_cli.specs.Ends.Ends.{no_command, no_memory}
-use Rattle.bench_cli.proofs.TakingLemmas.{with_line}
+use Rattle.bench_cli.proofs.ways.TakingLemmas.{with_line}
 use Rattle.bench_cli.proofs.top.run.Goals as goal
 
 pub returns-in-Ok-None : goal.returns-in-Ok-None

@@ -1,4 +1,4 @@
-use Rattle.bench_cli.proofs.UnitLemmas.{empty_ends, seat_fault_ends, seat_memory_ends}
+use Rattle.bench_cli.proofs.ways.UnitLemmas.{empty_ends, seat_fault_ends, seat_memory_ends}
 use Rattle.bench_cli.proofs.unit.end_unseated.Goals as goal
 
 pub returns-in-Absent : goal.returns-in-Absent

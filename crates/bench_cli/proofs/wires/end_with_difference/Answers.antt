@@ -1,5 +1,5 @@
 use Rattle.std.proofs.Common.{◌∙◌}
-use Rattle.bench_cli.proofs.TakingLemmas.{with_line}
+use Rattle.bench_cli.proofs.ways.TakingLemmas.{with_line}
 use Rattle.bench_cli.proofs.wires.end_with_difference.Goals as goal
 
 pub returns-in-Ok : goal.returns-in-Ok

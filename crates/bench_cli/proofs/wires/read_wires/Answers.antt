@@ -1,4 +1,4 @@
-use Rattle.bench_cli.proofs.TakingLemmas.{refuses_wires, takes_wires}
+use Rattle.bench_cli.proofs.ways.TakingLemmas.{refuses_wires, takes_wires}
 use Rattle.bench_cli.proofs.wires.read_wires.Goals as goal
 
 pub returns-in-Ok-clause-wires : goal.returns-in-Ok-clause-wires

@@ -1,5 +1,5 @@
 use Rattle.std.proofs.Common.{inr}
-use Rattle.script.proofs.Causing.{causes_and, none_fell, none_rose_then, reads_then}
+use Rattle.script.proofs.on_rig.Causing.{causes_and, none_fell, none_rose_then, reads_then}
 use Rattle.importing.proofs.Stopping.{keeps_all, stop_complete}
 use Rattle.importing.proofs.input.answer_input.Goals as goal
 

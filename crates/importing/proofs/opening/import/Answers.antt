@@ -2,8 +2,8 @@ use Rattle.std.proofs.Common.{inl, inr, ap, subst, arith}
 use Rattle.base.specs.Causes.{Rose}
 use Rattle.rig.specs.RigState.{RigState}
 use Rattle.ledger.specs.Opening.{refused}
-use Rattle.script.proofs.Causing.{none_rose_then}
-use Rattle.script.proofs.Openings.{is_refusal, refused_complete}
+use Rattle.script.proofs.on_rig.Causing.{none_rose_then}
+use Rattle.script.proofs.disk.Openings.{is_refusal, refused_complete}
 use Rattle.importing.proofs.Begun.{import_opened}
 use Rattle.importing.proofs.opening.import.Goals as goal
 

@@ -1,6 +1,6 @@
 use Rattle.std.proofs.Common.{◌≡◌, ◌<◌, ◌≤◌, List, length, get_or, inl, refl, ◌∙◌, ap, arith}
 use Rattle.script.specs.Said.{Asked}
-use Rattle.script.proofs.Causing.{causes_and, completes, ends_quiet, none_fell, none_fell_and}
+use Rattle.script.proofs.on_rig.Causing.{causes_and, completes, ends_quiet, none_fell, none_fell_and}
 use Rattle.importing.proofs.Answering.{answers_all, answers_next, begins, leaves_at, leaves_done}
 use Rattle.importing.proofs.rows.run_rows.Goals as goal
 

@@ -5,8 +5,8 @@ use Rattle.station.specs.View.{StationState}
 use Rattle.station.specs.Ended as ended
 use Rattle.script.specs.Closing as end
 use Rattle.script.specs.Said.{no_command, replied}
-use Rattle.script.proofs.Written.{writes_nothing}
-use Rattle.script.proofs.Applied.{answer_said, by_both, none_turn, answered_turn, lost_may, stuck_steps, rose_stuck, goes_on, goes_not_on, stuck_says, when_ok, both_err}
+use Rattle.script.proofs.answers.Written.{writes_nothing}
+use Rattle.script.proofs.answers.Applied.{answer_said, by_both, none_turn, answered_turn, lost_may, stuck_steps, rose_stuck, goes_on, goes_not_on, stuck_says, when_ok, both_err}
 use Rattle.script.proofs.answering.answer_command.Goals as goal
 
 pub returns-in_default-clause-answered : goal.returns-in_default-clause-answered

@@ -2,8 +2,8 @@ use Rattle.std.proofs.Common.{inl, inr, ap, subst, arith}
 use Rattle.base.specs.Causes.{Rose}
 use Rattle.rig.specs.RigState.{RigState}
 use Rattle.ledger.specs.Opening.{refused}
-use Rattle.script.proofs.Causing.{none_rose_then}
-use Rattle.script.proofs.Openings.{is_refusal, refused_complete, run_tells, scene_of_run, run_headline, run_keeps, run_found, run_limit}
+use Rattle.script.proofs.on_rig.Causing.{none_rose_then}
+use Rattle.script.proofs.disk.Openings.{is_refusal, refused_complete, run_tells, scene_of_run, run_headline, run_keeps, run_found, run_limit}
 use Rattle.script.proofs.opening.run.Goals as goal
 
 pub returns-in-Ok-clause-ends : goal.returns-in-Ok-clause-ends

@@ -1,7 +1,7 @@
 use Rattle.std.proofs.Common.{arith}
-use Rattle.script.proofs.Running.{begins, goes_on}
-use Rattle.script.proofs.Leaving.{leaves_in_whole, leaves_in_last, leaves_at_end, leaves_after_last, leaves_stopped}
-use Rattle.script.proofs.Causing.{none_fell, none_fell_and, causes_and, reads_then, ends_quiet, ends_reading, completes}
+use Rattle.script.proofs.answers.Running.{begins, goes_on}
+use Rattle.script.proofs.disk.Leaving.{leaves_in_whole, leaves_in_last, leaves_at_end, leaves_after_last, leaves_stopped}
+use Rattle.script.proofs.on_rig.Causing.{none_fell, none_fell_and, causes_and, reads_then, ends_quiet, ends_reading, completes}
 use Rattle.script.proofs.script.run_script.Goals as goal
 
 pub lines-init : goal.lines-init

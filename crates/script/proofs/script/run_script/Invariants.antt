@@ -1,7 +1,7 @@
 use Rattle.std.proofs.Common.{◌-◌, ◌≤◌}
 use Rattle.station.specs.View.{IsStanding}
 use Rattle.script.specs.Causes.{counts, NoneFell}
-use Rattle.script.proofs.Running.{Running}
+use Rattle.script.proofs.answers.Running.{Running}
 use Rattle.script.proofs.script.run_script.Given as goal
 
 abbrev pub invariant-lines : goal.invariant-lines
