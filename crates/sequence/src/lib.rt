@@ -18,3 +18,4 @@ mod voltage;
 mod wiring;
 
 pub use unit::run_unit;
+pub use unit_outcome::{UnitRun, UnitStop};
