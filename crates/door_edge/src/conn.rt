@@ -1,6 +1,11 @@
 //! A connection in memory: what it has to say, and what was said to it.
 
-ghost use Rattle.std.specs.Prelude.{◌≡◌, Some};
+ghost use Rattle.std.specs.Prelude.{◌≡◌, ◌↔◌, ◌<◌, min, Some, length, Contains, Err, IfOk};
+ghost use Rattle.std.specs.Result.{result_err, IsOkUnless};
+ghost use Rattle.std.specs.Io.{ReadsAtMost};
+ghost use Rattle.std.specs.Io.KnownBytes.{ReadConsumes, WriteAppends};
+ghost use Rattle.base.specs.Causes.{HasCause};
+ghost use Rattle.bench_edge.specs.Streams.{TakesSome, SameOtherHalf, CountsFailure, one_more};
 
 use base::{Bytes, Counts, Memory};
 use bench_edge::{EdgeStop, MemSink, MemSource, Sink, Source, Stream};
@@ -49,13 +54,38 @@ impl MemConn {
 }
 
 impl Source for MemConn {
-    fn read(&mut self, buf: &mut [u8]) -> Result<usize, EdgeStop> {
+    fn read(&mut self, buf: &mut [u8]) -> Result<usize, EdgeStop>
+        requires { 0 < length buf.old }
+        ensures bound { ReadsAtMost result buf.new }
+        ensures bytes { ReadConsumes (Some self.old.input.left) (Some self.new.input.left) result buf.new }
+        ensures cause { HasCause self.old.input.faults self.new.input.faults (result_err result) EdgeStop.Failed }
+        ensures apart { SameOtherHalf (Some self.old.output.got) (Some self.new.output.got) self.old.output.faults self.new.output.faults }
+        ensures full { IfOk result (λ n. n ≡ min (length self.old.input.left) (length buf.new)) }
+        ensures called { self.new.input.calls ≡ one_more self.old.input.calls }
+        ensures fails { (result ≡ Err EdgeStop.Failed) ↔ Contains self.old.input.failing self.new.input.calls }
+        ensures counted { CountsFailure self.old.input.faults self.new.input.faults result }
+        ensures only { IsOkUnless result EdgeStop.Failed }
+        ensures kept { self.new.input.failing ≡ self.old.input.failing }
+        ensures other_half { self.new.output ≡ self.old.output }
+    {
         self.input.read(buf)
     }
 }
 
 impl Sink for MemConn {
-    fn write(&mut self, bytes: &[u8]) -> Result<usize, EdgeStop> {
+    fn write(&mut self, bytes: &[u8]) -> Result<usize, EdgeStop>
+        requires { 0 < length bytes.now }
+        ensures bound { TakesSome result bytes.now }
+        ensures bytes { WriteAppends (Some self.old.output.got) (Some self.new.output.got) result bytes.now }
+        ensures cause { HasCause self.old.output.faults self.new.output.faults (result_err result) EdgeStop.Failed }
+        ensures apart { SameOtherHalf (Some self.old.input.left) (Some self.new.input.left) self.old.input.faults self.new.input.faults }
+        ensures full { IfOk result (λ n. n ≡ length bytes.now) }
+        ensures called { self.new.output.calls ≡ one_more self.old.output.calls }
+        ensures fails { (result ≡ Err EdgeStop.Failed) ↔ Contains self.old.output.failing self.new.output.calls }
+        ensures counted { CountsFailure self.old.output.faults self.new.output.faults result }
+        ensures kept { self.new.output.failing ≡ self.old.output.failing }
+        ensures other_half { self.new.input ≡ self.old.input }
+    {
         self.output.write(bytes)
     }
 }

@@ -84,8 +84,12 @@ impl MemDoor {
 }
 
 impl Door for MemDoor {
-    ghost use Rattle.std.specs.Prelude.{Some, map};
-    ghost use Rattle.door_edge.specs.Conns.{talk_of};
+    ghost use Rattle.std.specs.Prelude.{◌⊎◌, Err, IfOk, OnErr};
+    ghost use Rattle.std.specs.Result.{result_err, IsOkUnless};
+    ghost use Rattle.base.specs.Causes.{HasCause};
+    ghost use Rattle.bench_edge.specs.Streams.{CountsFailure, one_more};
+    ghost use Rattle.door_edge.specs.Conns.{talk_of, told_done, told_waiting};
+    ghost use Rattle.door_edge.specs.Doors.{TakesFirst, IsFresh};
 
     type Conn = MemConn;
 
@@ -93,18 +97,39 @@ impl Door for MemDoor {
 
     ghost room = { λ d. d.room };
 
-    ghost waiting = { λ d. Some (map (λ c. c.input.left) d.waiting) };
+    ghost waiting = { told_waiting };
 
-    ghost done = { λ d. Some (map talk_of d.done) };
+    ghost done = { told_done };
 
-    fn listen(&mut self, _port: u16) -> Result<(), EdgeStop> {
+    fn listen(&mut self, _port: u16) -> Result<(), EdgeStop>
+        ensures cause { HasCause self.old.faults self.new.faults (result_err result) EdgeStop.Failed }
+        ensures counted { CountsFailure self.old.faults self.new.faults result }
+        ensures waiting { told_waiting self.new ≡ told_waiting self.old }
+        ensures done { told_done self.new ≡ told_done self.old }
+        ensures called { self.new.calls ≡ one_more self.old.calls }
+        ensures fails { (result ≡ Err EdgeStop.Failed) ↔ Contains self.old.failing self.new.calls }
+        ensures only { IsOkUnless result EdgeStop.Failed }
+        ensures kept { self.new ≡ record self.old { calls = self.new.calls; faults = self.new.faults } }
+    {
         if self.is_to_fail() {
             return Err(self.fail());
         }
         Ok(())
     }
 
-    fn accept(&mut self) -> Result<MemConn, EdgeStop> {
+    fn accept(&mut self) -> Result<MemConn, EdgeStop>
+        ensures cause { HasCause self.old.faults self.new.faults (result_err result) EdgeStop.Failed }
+        ensures counted { CountsFailure self.old.faults self.new.faults result }
+        ensures first { IfOk result (λ c. TakesFirst (told_waiting self.old) (told_waiting self.new) (talk_of c)) }
+        ensures fresh { IfOk result (λ c. IsFresh (talk_of c)) }
+        ensures room { IfOk result (λ _. 1 ≤ self.new.room) }
+        ensures waiting { OnErr result (told_waiting self.new ≡ told_waiting self.old) }
+        ensures done { told_done self.new ≡ told_done self.old }
+        ensures called { self.new.calls ≡ one_more self.old.calls }
+        ensures fails { Contains self.old.failing self.new.calls → result ≡ Err EdgeStop.Failed }
+        ensures only { result ≡ Err EdgeStop.Failed → Contains self.old.failing self.new.calls ⊎ (self.old.waiting ≡ []) }
+        ensures kept { self.new.failing ≡ self.old.failing }
+    {
         if self.is_to_fail() {
             return Err(self.fail());
         }
