@@ -4,10 +4,10 @@ use Rattle.std.specs.Prelude.{Contains}
 use Rattle.std.proofs.lemmas.List.Elements.{Contains-get_or}
 use Rattle.partition.specs.Classes.{class_at, has}
 use Rattle.partition.specs.NetTable.{all_nets, head_of, judged_points, net_at, net_count}
-use Rattle.partition.proofs.HeadLemmas.{heads_below-are}
-use Rattle.partition.proofs.KeptLemmas.{net_at-below, net_at-is}
-use Rattle.partition.proofs.NetClasses.{head_judged, number_at}
-use Rattle.partition.proofs.NetLaws.{Contains-In, net_facts}
+use Rattle.partition.proofs.classes.HeadLemmas.{heads_below-are}
+use Rattle.partition.proofs.tables.KeptLemmas.{net_at-below, net_at-is}
+use Rattle.partition.proofs.tables.NetClasses.{head_judged, number_at}
+use Rattle.partition.proofs.tables.NetLaws.{Contains-In, net_facts}
 use Rattle.wirelist.specs.declared.program.Program.{Program}
 use Rattle.wirelist.specs.Clusters.{cluster_count, cluster_first_at, cluster_firsts, net_clusters}
 use Rattle.cluster_groups.specs.Laws.{IsClusterable, cluster_at}

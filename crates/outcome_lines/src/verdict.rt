@@ -1,6 +1,6 @@
 //! The text of a verdict.
 
-ghost use Rattle.std.specs.Prelude.{◌≡◌, ◌++◌, OnOk};
+ghost use Rattle.std.specs.Prelude.{◌≡◌, ◌++◌, OnOk, OnErr};
 ghost use Rattle.outcome_lines.specs.VerdictText.{verdict_text};
 
 use crate::decimal::write_decimal;
@@ -9,7 +9,18 @@ use std::alloc::Global;
 use wirelist::Verdict;
 
 /// Appends a verdict: `PASS`, `WIRING opens=1 shorts=0 miswires=0`, `PARTS 1`, `INSULATION 2` or `WITHSTAND bit=0 volts=750`.
+/// Where memory ran out it appends nothing.
 pub fn write_verdict(alloc: Global, verdict: &Verdict, out: &mut Text) -> Result<(), Memory>
+    ensures ok { OnOk result (out.new ≡ out.old ++ verdict_text verdict.now) }
+    ensures err { OnErr result (out.new ≡ out.old) }
+{
+    let mut text = Text::new(alloc);
+    append_verdict(alloc, verdict, &mut text)?;
+    out.push_str(text.as_str())
+}
+
+/// Appends a verdict, or a part of it where memory ran out.
+fn append_verdict(alloc: Global, verdict: &Verdict, out: &mut Text) -> Result<(), Memory>
     ensures { OnOk result (out.new ≡ out.old ++ verdict_text verdict.now) }
 {
     match verdict {

@@ -8,7 +8,7 @@ use Rattle.std.proofs.lemmas.List.Folds.{list_any-append}
 use Rattle.std.proofs.lemmas.Bool.Decides.{nat_tests}
 use Rattle.csv.specs.Writing.{default_writer, fields_text, is_blank, needs_byte, row_text}
 use Rattle.partition.specs.Names.{IsName, is_name_byte}
-use Rattle.partition.proofs.Labels.{and_left, and_right}
+use Rattle.partition.proofs.classes.Labels.{and_left, and_right}
 use Rattle.printed_rows.proofs.Fields.{name_field}
 use Rattle.wirelist.specs.Canonical.{line_of}
 use Rattle.serials.specs.Dates.{Civil, civil_text, two_digits}

@@ -1,6 +1,7 @@
 pub mod UnitText
 pub mod LotText
 pub mod ResultText
+-- what only the bodies' own contracts and invariants cite
 pub mod Programs
 pub mod Few
 pub mod Counting

@@ -1,6 +1,6 @@
 -- How a script is read.
-use Rattle.std.proofs.Common.{◌≡◌, ℕ, suc, ◌+◌, ◌<◌, ◌≤◌, Bool, true, false, List, [], ◌∷◌, ◌++◌, length, get_or, take, drop, Option, Some, None, refl, sym, ◌∙◌, ap, append_assoc, append-nil, arith}
-use Rattle.std.specs.Prelude.{if◌then◌else◌}
+use Rattle.std.proofs.Common.{◌≡◌, ℕ, suc, ◌+◌, ◌<◌, ◌≤◌, Bool, true, false, List, [], ◌∷◌, ◌++◌, length, get_or, take, drop, Option, Some, None, Result, Ok, Err, subst, refl, sym, ◌∙◌, ap, append_assoc, append-nil, arith}
+use Rattle.std.specs.Prelude.{IfErr, IsErrAnd, if◌then◌else◌}
 use Rattle.std.specs.List.{position}
 use Rattle.std.specs.Io.KnownBytes.{Consumes, Keeps, IsAtEnd}
 use Rattle.std.proofs.lemmas.Bool.{eqb-true}
@@ -178,3 +178,8 @@ no_lf_in bytes none i short = fails_before_first is_lf bytes i 0 (go (position_o
 -- more than 200 bytes
 pub too_long_by : (number : ℕ) (line : List ℕ) → 200 < length line → is_too_long number line ≡ true
 too_long_by number line more = rw (lt-ltb 200 (length line) more) refl
+
+-- an error that is this one has what is said of this one
+pub IfErr-by : {T E : Type 0} (r : Result T E) (P : E → Type 0) (e : E) → IsErrAnd r (λ y. y ≡ e) → P e → IfErr r P
+IfErr-by (Ok x) P e is h = absurd is
+IfErr-by (Err y) P e is h = subst P (sym is) h

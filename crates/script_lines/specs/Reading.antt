@@ -1,5 +1,5 @@
 -- How a script is read, line by line.
-use Rattle.std.specs.Prelude.{◌≡◌, ℕ, ◌<◌, ◌≤◌, true, false, List, [], ◌∷◌, ◌++◌, length, Option, Some, ⊤}
+use Rattle.std.specs.Prelude.{◌≡◌, ◌≢◌, ℕ, ◌<◌, ◌≤◌, true, false, List, [], ◌∷◌, ◌++◌, length, Option, Some, ⊤}
 use Rattle.base.specs.Causes.{Rose}
 use Rattle.lines.specs.Lines.{between_lfs}
 use Rattle.script_lines.specs.declared.reader.NextLine.{NextLine}
@@ -49,6 +49,14 @@ abbrev pub ReadsNot : List ℕ → ℕ → LineStop → List ℕ → Option (Lis
 ReadsNot to_come number Failed pending left = ReadsNoLine to_come pending left
 ReadsNot to_come number TooLong pending left = ReadsTooLong to_come number
 ReadsNot to_come number Memory pending left = ⊤
+
+-- What is pending and what is left after a stop is what was to come; want of memory may have lost bytes between the two.
+pub record KeepsPending (to_come : List ℕ) (stop : LineStop) (pending : List ℕ) (left : Option (List ℕ)) : Type 0 where
+  pub lost : List ℕ
+  pub behind : List ℕ
+  pub left_is : left ≡ Some behind
+  pub split : to_come ≡ pending ++ (lost ++ behind)
+  pub none_lost : stop ≢ Memory → lost ≡ []
 
 -- a read is answered as failed only where the source's count of failed reads rose
 abbrev pub StopCause : ℕ → ℕ → LineStop → Type 0

@@ -1,9 +1,9 @@
 //! The next line of a script.
 
-ghost use Rattle.std.specs.Prelude.{◌≡◌, ◌+◌, ◌<◌, ◌≤◌, ◌++◌, false, Some, List, ℕ, length, take, drop, IfOk, IfErr};
+ghost use Rattle.std.specs.Prelude.{◌≡◌, ◌+◌, ◌<◌, ◌≤◌, ◌++◌, false, Some, List, ℕ, length, take, drop, IfOk, IfErr, OnErr};
 ghost use Rattle.std.specs.List.{position};
 ghost use Rattle.lines.specs.Lines.{is_lf};
-ghost use Rattle.script_lines.specs.Reading.{ReadsNext, ReadsNot, IsFew, StopCause};
+ghost use Rattle.script_lines.specs.Reading.{ReadsNext, ReadsNot, KeepsPending, IsFew, StopCause};
 ghost use Rattle.script_lines.specs.Script.{is_too_long};
 
 use base::{Bytes, Memory};
@@ -50,7 +50,7 @@ impl From<Memory> for LineStop {
 
 /// Gives the line of this number, which comes next: what is pending was read before, and is not read again.
 ///
-/// What was read behind the line is pending then, and after a stop all that was read.
+/// What was read behind the line is pending then, and after a stop all that was read, but what there was no memory to keep.
 pub fn next_line<I: Source>(
     alloc: Global,
     input: &mut I,
@@ -62,6 +62,8 @@ pub fn next_line<I: Source>(
     ensures few { IfOk result (IsFew number) }
     ensures stop { IfErr result (λ stop. (left : List ℕ) → I.left input.old ≡ Some left
         → ReadsNot (pending.old ++ left) number stop pending.new (I.left input.new)) }
+    ensures kept { IfErr result (λ stop. (left : List ℕ) → I.left input.old ≡ Some left
+        → KeepsPending (pending.old ++ left) stop pending.new (I.left input.new)) }
     ensures later { I.read_faults input.old ≤ I.read_faults input.new }
     ensures cause { IfErr result (StopCause (I.read_faults input.old) (I.read_faults input.new)) }
 {
@@ -115,6 +117,7 @@ fn take_line(alloc: Global, pending: &mut Bytes, end: usize) -> Result<Bytes, Me
     requires { end < length pending.old }
     ensures line { IfOk result (λ line. line ≡ take end pending.old) }
     ensures rest { IfOk result (λ line. pending.new ≡ drop (end + 1) pending.old) }
+    ensures err { OnErr result (pending.new ≡ pending.old) }
 {
     let line = Bytes::from_slice(alloc, &pending.as_slice()[..end])?;
     let rest = Bytes::from_slice(alloc, &pending.as_slice()[end + 1..])?;

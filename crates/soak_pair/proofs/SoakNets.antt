@@ -11,13 +11,13 @@ use Rattle.partition.specs.Names.{IsName}
 use Rattle.partition.specs.NetTable.{NetTable, IsNetTable, Disjoint, judged_points}
 use Rattle.partition.specs.NetFaults.{ascending_net}
 use Rattle.partition.proofs.Ascending.{ascending_is}
-use Rattle.partition.proofs.KeptLemmas.{points_below-In}
+use Rattle.partition.proofs.tables.KeptLemmas.{points_below-In}
 use Rattle.partition.proofs.Members.{In, In-filter, has-In}
 use Rattle.wirelist.specs.declared.parts.Resistor.{Resistor}
 use Rattle.wirelist.specs.declared.parts.Diode.{Diode}
 use Rattle.wirelist.specs.Programs.{IsProgram}
 use Rattle.wirelist.specs.Ranges.{most_points}
-use Rattle.partition.proofs.NetLaws.{In-index}
+use Rattle.partition.proofs.tables.NetLaws.{In-index}
 use Rattle.learned_program.proofs.ListLemmas.{In-Contains, map-kept}
 use Rattle.learned_program.proofs.NameLemmas.{learned_is_name, learned_name-injective}
 use Rattle.soak_pair.specs.Pair.{soak_net, soak_nets, soak_name, soak_program}

@@ -8,7 +8,7 @@ use Rattle.std.proofs.lemmas.List.{append-nil}
 use Rattle.std.proofs.lemmas.List.FromFn.{map-range_with_len_more, length-range_with_len, get_or-range_with_len, length-map-range_with_len}
 use Rattle.std.proofs.lemmas.Bool.{leb-true}
 use Rattle.partition.proofs.Members.{In, In-append_cases, In-map_cases, In-flat_map_cases}
-use Rattle.partition.proofs.NetLaws.{In-index}
+use Rattle.partition.proofs.tables.NetLaws.{In-index}
 use Rattle.learned_program.proofs.ListLemmas.{index-In}
 use Rattle.rig.specs.declared.unit.Row.{Row}
 use Rattle.rig.specs.declared.unit.Row.TheVariants.{Wire}

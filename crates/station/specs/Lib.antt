@@ -3,7 +3,8 @@ pub mod Step
 pub mod View
 pub mod Ended
 pub mod RigAfter
-pub mod Applied
 pub mod Mounted
 pub mod AnswerText
 pub mod Laws
+-- what only the bodies' own contracts and invariants cite
+pub mod Applied

@@ -15,7 +15,7 @@ returns-then-number-count c =
     let p = c.args.program.now in
     let past : length p.names ≤ c.args.number = omega (arith, c.if-place-names.false, ap length c.as_slice-names.ensures) in
     named _ c.args.out.now _ _ _ (ap point_label c.write_decimal.view_is ∙ sym (label_alone p c.args.number c.head.result c.requires.names past (omega (arith, c.if-number-count.true, c.count.ensures.count)) c.head.ensures.head))
-    (last (start c.args.out.now (codes "pt") _ c.in_ok-push_str.ensures.ok) _ _ _ c.write_decimal-then-number-count.ensures)
+    (last (start c.args.out.now (codes "pt") _ c.in_ok-push_str.ensures.ok) _ _ _ c.write_decimal-then-number-count.ensures.ok)
 
 pub returns : goal.returns
 returns c =

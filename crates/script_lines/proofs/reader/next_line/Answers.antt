@@ -1,7 +1,8 @@
 use Rattle.std.proofs.Common.{◌≡◌, ◌∙◌, ℕ, ◌+◌, ◌<◌, List, [], ◌∷◌, ◌++◌, length, take, drop, ap, sym, refl, arith, append-nil}
 use Rattle.std.specs.List.{position}
 use Rattle.lines.specs.Lines.{is_lf, between_lfs}
-use Rattle.script_lines.proofs.Readings.{at_lf, behind_lf, first_of, long_line, last_line, no_lf_in, too_long_by, left_kept, left_ends}
+use Rattle.script_lines.proofs.Readings.{at_lf, behind_lf, first_of, IfErr-by, long_line, last_line, no_lf_in, too_long_by, left_kept, left_ends}
+use Rattle.script_lines.specs.declared.reader.LineStop.TheVariants.{Memory}
 use Rattle.script_lines.proofs.reader.next_line.Goals as goal
 
 pub returns-then-is_long-clause-stop : goal.returns-then-is_long-clause-stop
@@ -86,3 +87,19 @@ returns-then-count-eq0-clause-line g c left told =
       no_lf = none;
       short = sym (c.is_long-then-count-eq0.ensures.long c.reads.pending (sym c.len-then-count-eq0.ensures)) ∙ c.if-is_long-2.false;
     })
+
+pub returns-then-is_long-clause-kept : goal.returns-then-is_long-clause-kept
+returns-then-is_long-clause-kept g c left told =
+    let at = c.reads.invariant.told left told in
+    record { lost = []; behind = at.0; left_is = at.1; split = at.2; none_lost = λ _. refl }
+
+pub returns-then-len-gt-MOST_BYTES-clause-kept : goal.returns-then-len-gt-MOST_BYTES-clause-kept
+returns-then-len-gt-MOST_BYTES-clause-kept g c left told =
+    let at = c.reads.invariant.told left told in
+    record { lost = []; behind = at.0; left_is = at.1; split = at.2; none_lost = λ _. refl }
+
+pub returns-in_err-take_line-clause-kept : goal.returns-in_err-take_line-clause-kept
+returns-in_err-take_line-clause-kept g c =
+    IfErr-by c.from_residual.result _ Memory c.from_residual.ensures.1 (λ left told.
+    let at = c.reads.invariant.told left told in
+    record { lost = []; behind = at.0; left_is = at.1; split = at.2 ∙ ap (λ (l : List ℕ). l ++ at.0) (sym c.in_err-take_line.ensures.err); none_lost = λ _. refl })

@@ -1,5 +1,5 @@
 use Rattle.std.proofs.Common.{sym, subst}
-use Rattle.applications.proofs.Together.{IfOk-map}
+use Rattle.applications.proofs.one_application.Together.{IfOk-map}
 use Rattle.harness.specs.Harness.{IsSound, IsOfRows}
 use Rattle.rig_sim.specs.SimRig.{IsNew}
 use Rattle.soak_pair.specs.Pair.{soak_rows}
