@@ -1,15 +1,6 @@
 pub mod Allowed
-pub mod Climbing
-pub mod Held
 pub mod Resting
 pub mod NotCharged
-pub mod Lasting
-pub mod Together
-pub mod InOrder
 pub mod Counted
-pub mod Parts
-pub mod Turns
-pub mod Stood
-pub mod Runs
-pub mod LeakEach
-pub mod EnduredEach
+pub mod one_application
+pub mod one_by_one

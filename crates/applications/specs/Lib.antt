@@ -1,5 +1,3 @@
-pub mod Steps
-pub mod Holding
 pub mod Counting
 pub mod Measuring
 pub mod Enduring
@@ -7,3 +5,6 @@ pub mod Standing
 pub mod Ordered
 pub mod Each
 pub mod Charge
+-- what only the bodies' own contracts and invariants cite
+pub mod Steps
+pub mod Holding

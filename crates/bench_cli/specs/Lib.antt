@@ -4,7 +4,6 @@ pub mod UnitEnds
 pub mod Findings
 pub mod Wires
 pub mod Run
-pub mod Files
 pub mod Told
 pub mod UnitWork
 pub mod Checking
@@ -17,3 +16,5 @@ pub mod Soaking
 pub mod Works
 pub mod Ends
 pub mod Promises
+-- what only the bodies' own contracts and invariants cite
+pub mod Files

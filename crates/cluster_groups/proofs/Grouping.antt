@@ -12,14 +12,14 @@ use Rattle.partition.specs.Classes.{Same, class_at, has, points_below}
 use Rattle.partition.specs.Digits.{bit_of, digits_of}
 use Rattle.partition.specs.Heads.{heads_to}
 use Rattle.partition.specs.NetTable.{all_nets, head_of, judged_points, net_at, net_count}
-use Rattle.partition.proofs.ClassLaws.{same-classes_by}
+use Rattle.partition.proofs.classes.ClassLaws.{same-classes_by}
 use Rattle.partition.proofs.DigitLaws.{bits_apart, digits_enough, digits_least}
-use Rattle.partition.proofs.HeadLemmas.{heads_below-are}
-use Rattle.partition.proofs.KeptLemmas.{net_at-is}
-use Rattle.partition.proofs.Labels.{false_not, not_true}
+use Rattle.partition.proofs.classes.HeadLemmas.{heads_below-are}
+use Rattle.partition.proofs.tables.KeptLemmas.{net_at-is}
+use Rattle.partition.proofs.classes.Labels.{false_not, not_true}
 use Rattle.partition.proofs.Members.{In, In-filter, In-filter_cases, In-has, has-In}
-use Rattle.partition.proofs.NetClasses.{head_judged, number_at}
-use Rattle.partition.proofs.NetLaws.{Contains-In, judged-below, net_facts}
+use Rattle.partition.proofs.tables.NetClasses.{head_judged, number_at}
+use Rattle.partition.proofs.tables.NetLaws.{Contains-In, judged-below, net_facts}
 use Rattle.wirelist.specs.declared.program.Program.{Program}
 use Rattle.wirelist.specs.Clusters.{cluster_classes, cluster_count, cluster_first_at, cluster_firsts, net_clusters, others, side}
 use Rattle.cluster_groups.specs.Laws.{AreOpposite, ClustersLaw, IsClusterable, IsGroupOf, NumberLaw, RouteLaw, cluster_at}

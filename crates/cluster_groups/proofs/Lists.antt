@@ -6,9 +6,9 @@ use Rattle.std.proofs.lemmas.List.FromFn.{get_or-range_with_len, length-range_wi
 use Rattle.std.proofs.lemmas.List.{get_or_append_left, get_or_push, length_push}
 use Rattle.partition.specs.Classes.{class_at, points_below, has}
 use Rattle.partition.specs.Heads.{heads_below, heads_to}
-use Rattle.partition.proofs.HeadLemmas.{heads_below-head, heads_below-other}
+use Rattle.partition.proofs.classes.HeadLemmas.{heads_below-head, heads_below-other}
 use Rattle.partition.proofs.Members.{In, In-has}
-use Rattle.partition.proofs.NetLaws.{Contains-In, In-index}
+use Rattle.partition.proofs.tables.NetLaws.{Contains-In, In-index}
 
 -- a filter of what another filter keeps
 pub filter_filter : (f g h : ℕ → Bool) (xs : List ℕ) → ((q : ℕ) → In q xs → (h q ≡ true → f q ≡ g q) × (h q ≡ false → f q ≡ false)) → filter f xs ≡ filter g (filter h xs)

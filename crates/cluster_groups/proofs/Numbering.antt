@@ -11,12 +11,12 @@ use Rattle.partition.specs.Digits.{bit_of}
 use Rattle.partition.specs.Heads.{heads_below}
 use Rattle.partition.specs.NetTable.{judged_points, net_at, net_count}
 use Rattle.partition.specs.Partitions.{IsPartitionOfAll}
-use Rattle.partition.proofs.ClassLaws.{eqb-agree}
-use Rattle.partition.proofs.HeadLemmas.{heads_below-increasing, length-heads_below-grows}
-use Rattle.partition.proofs.JoinedPartition.{joined_by-own}
-use Rattle.partition.proofs.KeptLemmas.{In-points_below, bools_agree, net_at-below}
+use Rattle.partition.proofs.classes.ClassLaws.{eqb-agree}
+use Rattle.partition.proofs.classes.HeadLemmas.{heads_below-increasing, length-heads_below-grows}
+use Rattle.partition.proofs.classes.JoinedPartition.{joined_by-own}
+use Rattle.partition.proofs.tables.KeptLemmas.{In-points_below, bools_agree, net_at-below}
 use Rattle.partition.proofs.Members.{In, In-enumerate, In-filter, In-filter_cases, In-has, In-map, In-map_cases, enumerate-In, has-In}
-use Rattle.partition.proofs.NetLaws.{judged-is}
+use Rattle.partition.proofs.tables.NetLaws.{judged-is}
 use Rattle.partition.proofs.PickedLemmas.{increasing_same}
 use Rattle.wirelist.specs.declared.program.Program.{Program}
 use Rattle.wirelist.specs.Clusters.{cluster_count, cluster_first_at, cluster_firsts, component_links, net_clusters, others, side}

@@ -9,13 +9,13 @@ use Rattle.partition.specs.Classes.{JoinsBelow, class_at, first_with, has, no_cl
 use Rattle.partition.specs.Heads.{heads_below, heads_to}
 use Rattle.partition.specs.NetTable.{IsNetTable, all_nets, head_of, judged_points, net_at, net_count}
 use Rattle.partition.specs.Partitions.{HasClass, IsClassing}
-use Rattle.partition.proofs.ClassLaws.{classes_by-IsPartition, classes_by-same, length-classes_by, same-classes_by}
-use Rattle.partition.proofs.HeadLemmas.{heads_below-head, heads_below-other, length-heads_below-grows, points_below-suc}
-use Rattle.partition.proofs.JudgedPartition.{js-class, partition-classing}
-use Rattle.partition.proofs.KeptLemmas.{In-points_below, net_at-below, net_at-is}
+use Rattle.partition.proofs.classes.ClassLaws.{classes_by-IsPartition, classes_by-same, length-classes_by, same-classes_by}
+use Rattle.partition.proofs.classes.HeadLemmas.{heads_below-head, heads_below-other, length-heads_below-grows, points_below-suc}
+use Rattle.partition.proofs.classes.JudgedPartition.{js-class, partition-classing}
+use Rattle.partition.proofs.tables.KeptLemmas.{In-points_below, net_at-below, net_at-is}
 use Rattle.partition.proofs.Members.{In}
-use Rattle.partition.proofs.NetClasses.{number_at as numbered_net}
-use Rattle.partition.proofs.NetLaws.{judged-ascends, judged-below, net_facts}
+use Rattle.partition.proofs.tables.NetClasses.{number_at as numbered_net}
+use Rattle.partition.proofs.tables.NetLaws.{judged-ascends, judged-below, net_facts}
 use Rattle.wirelist.specs.declared.program.Program.{Program}
 use Rattle.wirelist.specs.Clusters.{ComponentsInside, cluster_classes, cluster_first_at, component_links, diode_link, net_clusters, resistor_link}
 use Rattle.cluster_groups.specs.declared.clusters.Choice.{Choice}

@@ -9,7 +9,7 @@ use Rattle.std.specs.Prelude.{All}
 use Rattle.std.specs.List.Sorted.{IsStrictlyIncreasing}
 use Rattle.partition.specs.NetTable.{head_of}
 use Rattle.partition.proofs.PickedLemmas.{increasing_below}
-use Rattle.partition.proofs.FirstPoint.{head_of-first}
+use Rattle.partition.proofs.classes.FirstPoint.{head_of-first}
 use Rattle.rig.proofs.Groups.{IsGroup-one, Contains-one}
 use Rattle.continuity_check.specs.Compared.{Compared, compared_with, compared_in}
 use Rattle.continuity_check.proofs.Comparing.{Compares-none, Compares-then}

@@ -7,7 +7,7 @@ use Rattle.std.proofs.lemmas.Grind.{flat_map-append}
 use Rattle.std.proofs.lemmas.List.{append-nil}
 use Rattle.partition.specs.NetTable.{NetTable, IsNetTable, all_nets, judged_points}
 use Rattle.partition.proofs.Members.{In-has}
-use Rattle.partition.proofs.NetLaws.{Contains-In, judged-below}
+use Rattle.partition.proofs.tables.NetLaws.{Contains-In, judged-below}
 use Rattle.rig.specs.Calls.{IsGroup}
 use Rattle.continuity_check.specs.Compared.{Compared, compared_in, compared_of}
 

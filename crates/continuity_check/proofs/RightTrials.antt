@@ -3,7 +3,7 @@ use Rattle.std.proofs.Common.{◌≡◌, ◌∷◌, [], ℕ, suc, Bool, true, fa
 use Rattle.std.specs.Prelude.{All}
 use Rattle.std.proofs.lemmas.Bool.{eq-eqb, eqb-true}
 use Rattle.partition.specs.Classes.{JoinsBelow}
-use Rattle.partition.proofs.WalkLaws.{joined_by-walk, walk-joined_by}
+use Rattle.partition.proofs.classes.WalkLaws.{joined_by-walk, walk-joined_by}
 use Rattle.rig.specs.declared.unit.Row.{Row}
 use Rattle.rig.specs.Joins.{joins_of, joined_classes}
 use Rattle.continuity_check.specs.Compared.{Trial, trial_of}

@@ -15,11 +15,11 @@ use Rattle.difference.specs.DifferenceRanges.{PieceWithin, ShortWithin, PieceBef
 use Rattle.difference.specs.declared.wiring.Piece.{Piece}
 use Rattle.difference.specs.declared.wiring.Short.{Short}
 use Rattle.partition.proofs.Members.{In, In-append_cases, In-map_cases, In-filter_cases, In-flat_map_cases, In-filter_map_cases, has-In, In-has, In-enumerate}
-use Rattle.partition.proofs.ClassLaws.{has-points_below}
-use Rattle.partition.proofs.Labels.{and_left, and_right}
-use Rattle.partition.proofs.NetLaws.{NetFacts, same_net}
+use Rattle.partition.proofs.classes.ClassLaws.{has-points_below}
+use Rattle.partition.proofs.classes.Labels.{and_left, and_right}
+use Rattle.partition.proofs.tables.NetLaws.{NetFacts, same_net}
 use Rattle.difference.proofs.RebuildLaw.{some_when}
-use Rattle.partition.proofs.NetLaws.{net_facts, judged-ascends, All-In}
+use Rattle.partition.proofs.tables.NetLaws.{net_facts, judged-ascends, All-In}
 use Rattle.partition.proofs.InTurn.{InTurn, All-from_In, In-get_or, AllPairs-from_InTurn, InTurn-weaken, InTurn-map, InTurn-filter, InTurn-flat_map, InTurn-enumerate, InTurn-found, InTurn-from_increasing, increasing-from_InTurn, InTurn-from_ascends, InTurn-apart, length-filter_any, length-distinct_le, length-le-sum_by, first_of_some}
 
 -- numbered nets, in order of their numbers

@@ -12,12 +12,12 @@ use Rattle.difference.specs.Rebuild.{rebuilt}
 use Rattle.difference.specs.declared.wiring.Piece.{Piece}
 use Rattle.difference.specs.declared.wiring.Short.{Short}
 use Rattle.partition.proofs.Members.{In, In-map_cases, In-filter_cases, In-flat_map_cases, In-filter_map_cases, In-has, In-enumerate}
-use Rattle.partition.proofs.ClassLaws.{classes_by-agree, eqb-agree}
-use Rattle.partition.proofs.Labels.{and_left, and_right, not_true, eqb_false}
-use Rattle.partition.proofs.NetLaws.{NetFacts}
+use Rattle.partition.proofs.classes.ClassLaws.{classes_by-agree, eqb-agree}
+use Rattle.partition.proofs.classes.Labels.{and_left, and_right, not_true, eqb_false}
+use Rattle.partition.proofs.tables.NetLaws.{NetFacts}
 use Rattle.difference.proofs.RebuildLaw.{some_when, rebuilt-difference}
-use Rattle.partition.proofs.NetLaws.{net_facts}
-use Rattle.partition.proofs.Programmed.{number_at, programmed-same, same-programmed}
+use Rattle.partition.proofs.tables.NetLaws.{net_facts}
+use Rattle.partition.proofs.classes.Programmed.{number_at, programmed-same, same-programmed}
 
 -- a list without a member is empty
 pub no_member : {X : Type 0} (xs : List X) → ((x : X) → In x xs → ⊥) → xs ≡ []

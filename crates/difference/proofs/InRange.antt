@@ -8,13 +8,13 @@ use Rattle.difference.specs.Measured.{IsMeasured, net_of}
 use Rattle.difference.specs.Labelling.{IsInRange, PieceIsOf, ShortIsOf}
 use Rattle.difference.specs.declared.wiring.Piece.{Piece}
 use Rattle.difference.specs.declared.wiring.Short.{Short}
-use Rattle.partition.proofs.ClassLaws.{points_below-AllBelow}
+use Rattle.partition.proofs.classes.ClassLaws.{points_below-AllBelow}
 use Rattle.partition.proofs.Members.{In, In-filter_cases, In-filter_map_cases, In-flat_map_cases, In-has, In-map_cases}
-use Rattle.partition.proofs.NetLaws.{judged-below}
+use Rattle.partition.proofs.tables.NetLaws.{judged-below}
 use Rattle.difference.proofs.RebuildLaw.{some_when}
 use Rattle.difference.proofs.PieceOrder.{net_point, numbered, numbered_is}
 use Rattle.difference.proofs.MeasuredLemmas.{All-from_In}
-use Rattle.partition.proofs.NetClasses.{head_judged}
+use Rattle.partition.proofs.tables.NetClasses.{head_judged}
 
 module _ (t : NetTable) (m : List ℕ) (ok : IsNetTable t) (is : IsMeasured t m) (few : t.points < 2 ^ 16) where
   -- a numbered net is a net of the table

@@ -5,10 +5,10 @@ use Rattle.partition.specs.NetTable.{IsNetTable, NetTable, judged_points, net_at
 use Rattle.partition.specs.Partitions.{HasClass, IsClassing, IsOver}
 use Rattle.difference.specs.Measured.{IsMeasured}
 use Rattle.partition.proofs.Ascending.{same_ascending}
-use Rattle.partition.proofs.ClassLaws.{length-classes_by}
-use Rattle.partition.proofs.JudgedPartition.{class-inside, class-js, class-judged, classing-IsPartition, js-class, judged-class, judged_in-ascends}
-use Rattle.partition.proofs.NetLaws.{judged-ascends, judged-below}
-use Rattle.partition.proofs.Programmed.{programmed-IsPartition}
+use Rattle.partition.proofs.classes.ClassLaws.{length-classes_by}
+use Rattle.partition.proofs.classes.JudgedPartition.{class-inside, class-js, class-judged, classing-IsPartition, js-class, judged-class, judged_in-ascends}
+use Rattle.partition.proofs.tables.NetLaws.{judged-ascends, judged-below}
+use Rattle.partition.proofs.classes.Programmed.{programmed-IsPartition}
 
 -- of the points below n those that count have a class, and no other
 pub record AgreesTo (t : NetTable) (m : List ℕ) (n : ℕ) : Type 0 where

@@ -14,14 +14,14 @@ use Rattle.partition.specs.Partitions.{IsLabel}
 use Rattle.difference.specs.declared.wiring.Piece.{Piece}
 use Rattle.difference.specs.declared.wiring.Short.{Short}
 use Rattle.difference.specs.declared.wiring.Difference.{Difference}
-use Rattle.partition.proofs.ClassLaws.{classes_by-agree, points_below-AllBelow}
+use Rattle.partition.proofs.classes.ClassLaws.{classes_by-agree, points_below-AllBelow}
 use Rattle.partition.proofs.Members.{In-has}
-use Rattle.partition.proofs.NetLaws.{index-In, judged-below, judged-is, net_facts}
+use Rattle.partition.proofs.tables.NetLaws.{index-In, judged-below, judged-is, net_facts}
 use Rattle.std.proofs.lemmas.List.FromFn.{get_or-map-range_with_len}
 use Rattle.partition.specs.Claims.{head_class}
-use Rattle.partition.proofs.KeptLemmas.{bools_agree, filter-agree, net_at-below, net_at-is}
-use Rattle.partition.proofs.NetClasses.{net_increasing, net_some, number_at}
-use Rattle.partition.proofs.NetClasses.{head_first}
+use Rattle.partition.proofs.tables.KeptLemmas.{bools_agree, filter-agree, net_at-below, net_at-is}
+use Rattle.partition.proofs.tables.NetClasses.{net_increasing, net_some, number_at}
+use Rattle.partition.proofs.tables.NetClasses.{head_first}
 
 or-false : (b : Bool) → (b || false) ≡ b
 or-false true = refl

@@ -17,17 +17,17 @@ use Rattle.difference.specs.declared.wiring.Piece.{Piece}
 use Rattle.difference.specs.declared.wiring.Short.{Short}
 use Rattle.difference.specs.declared.wiring.Difference.{Difference}
 use Rattle.partition.proofs.Members.{In, In-filter_cases, In-map_cases, In-flat_map_cases, In-has, has-In}
-use Rattle.partition.proofs.ClassLaws.{points_below-AllBelow, has-points_below, partition-own, length-partition}
-use Rattle.partition.proofs.Labels.{eqb_false}
-use Rattle.partition.proofs.NetLaws.{index-In, judged-below, judged-ascends}
-use Rattle.partition.proofs.JudgedPartition.{class-js}
-use Rattle.partition.proofs.WalkLaws.{point_class}
-use Rattle.partition.proofs.HeadLemmas.{points_below-suc}
-use Rattle.partition.proofs.AloneLemmas.{points_yes, points_no}
+use Rattle.partition.proofs.classes.ClassLaws.{points_below-AllBelow, has-points_below, partition-own, length-partition}
+use Rattle.partition.proofs.classes.Labels.{eqb_false}
+use Rattle.partition.proofs.tables.NetLaws.{index-In, judged-below, judged-ascends}
+use Rattle.partition.proofs.classes.JudgedPartition.{class-js}
+use Rattle.partition.proofs.classes.WalkLaws.{point_class}
+use Rattle.partition.proofs.classes.HeadLemmas.{points_below-suc}
+use Rattle.partition.proofs.tables.AloneLemmas.{points_yes, points_no}
 use Rattle.difference.proofs.EmptyLaw.{meets_some}
 use Rattle.difference.proofs.RebuildLaw.{meets_true}
-use Rattle.partition.proofs.KeptLemmas.{bools_agree, net_at-below}
-use Rattle.partition.proofs.NetClasses.{number_at}
+use Rattle.partition.proofs.tables.KeptLemmas.{bools_agree, net_at-below}
+use Rattle.partition.proofs.tables.NetClasses.{number_at}
 use Rattle.difference.proofs.PieceOrder.{numbered, numbered_is, net_point, point_net}
 
 pub All-from_In : {X : Type 0} (P : X → Type 0) (xs : List X) → ((x : X) → In x xs → P x) → All P xs

@@ -12,15 +12,15 @@ use Rattle.difference.specs.Difference.{home_of, meeting, meets, anchor_of, piec
 use Rattle.partition.specs.NetTable.{head_at}
 use Rattle.difference.specs.Measured.{IsMeasured, net_of, is_stray, stray_anchor, by_anchor, by_net, pieces_along}
 use Rattle.partition.proofs.Members.{In, In-filter, In-filter_cases, In-flat_map_cases, In-has}
-use Rattle.partition.proofs.ClassLaws.{points_below-AllBelow}
-use Rattle.partition.proofs.Labels.{neq-eqb, eqb_false}
-use Rattle.partition.proofs.NetLaws.{net_facts, judged-is, judged-below}
-use Rattle.partition.proofs.NetLaws.{NetFacts}
+use Rattle.partition.proofs.classes.ClassLaws.{points_below-AllBelow}
+use Rattle.partition.proofs.classes.Labels.{neq-eqb, eqb_false}
+use Rattle.partition.proofs.tables.NetLaws.{net_facts, judged-is, judged-below}
+use Rattle.partition.proofs.tables.NetLaws.{NetFacts}
 use Rattle.difference.proofs.RebuildLaw.{anchor_class, meets_true}
 use Rattle.difference.proofs.EmptyLaw.{no_member, meets_some}
 use Rattle.partition.proofs.Ascending.{ascending_is, filter-filter}
-use Rattle.partition.proofs.KeptLemmas.{bools_agree, filter-agree, net_at-is}
-use Rattle.partition.proofs.NetClasses.{net_increasing, number_at}
+use Rattle.partition.proofs.tables.KeptLemmas.{bools_agree, filter-agree, net_at-is}
+use Rattle.partition.proofs.tables.NetClasses.{net_increasing, number_at}
 use Rattle.difference.proofs.PieceRuns.{piece, piece_if, all_rows}
 
 -- ---- lists

@@ -7,7 +7,7 @@ use Rattle.std.proofs.lemmas.Bool.{lt-ltb, eq-eqb, ne_eqb, and_from, and_left, a
 use Rattle.difference.specs.Measured.{no_piece, goes_on, with_point}
 use Rattle.difference.specs.declared.wiring.Piece.{Piece}
 use Rattle.partition.proofs.Members.{In, In-append_cases}
-use Rattle.partition.proofs.NetLaws.{index-In}
+use Rattle.partition.proofs.tables.NetLaws.{index-In}
 
 abbrev pub piece : ℕ → ℕ → List ℕ → Piece
 piece n c points = record { net = n; class = c; points = points }

@@ -12,9 +12,9 @@ use Rattle.difference.specs.Rebuild.{short_label, label_of, rebuilt}
 use Rattle.difference.specs.declared.wiring.Piece.{Piece}
 use Rattle.difference.specs.declared.wiring.Short.{Short}
 use Rattle.partition.proofs.Members.{In, In-append_left, In-append_right, In-append_cases, In-map, In-map_cases, In-filter, In-filter_cases, In-flat_map, In-flat_map_cases, In-filter_map, In-filter_map_cases, has-In, In-has}
-use Rattle.partition.proofs.ClassLaws.{classes_by-agree, eqb-agree, partition-own}
-use Rattle.partition.proofs.Labels.{and_left, and_right, not_true, false_not, neq-eqb, eqb_false, last_label-all, last_label-none, first_found}
-use Rattle.partition.proofs.NetLaws.{NetFacts, same_net}
+use Rattle.partition.proofs.classes.ClassLaws.{classes_by-agree, eqb-agree, partition-own}
+use Rattle.partition.proofs.classes.Labels.{and_left, and_right, not_true, false_not, neq-eqb, eqb_false, last_label-all, last_label-none, first_found}
+use Rattle.partition.proofs.tables.NetLaws.{NetFacts, same_net}
 
 pub some_when : {X : Type 0} (b : Bool) (r x : X) → cond b (Some r) None ≡ Some x → (b ≡ true) × (r ≡ x)
 some_when true r x e = (refl, cc)

@@ -14,9 +14,9 @@ use Rattle.difference.specs.Difference.{anchor_of, pieces_of}
 use Rattle.partition.specs.NetTable.{head_at}
 use Rattle.difference.specs.Measured.{IsMeasured, AreAnchors, net_of, is_stray, stray_anchor, by_anchor, by_net, with_point, pieces_along}
 use Rattle.difference.specs.declared.wiring.Piece.{Piece}
-use Rattle.partition.proofs.ClassLaws.{points_below-AllBelow}
+use Rattle.partition.proofs.classes.ClassLaws.{points_below-AllBelow}
 use Rattle.partition.proofs.Members.{In-has}
-use Rattle.partition.proofs.KeptLemmas.{bools_agree, filter-agree}
+use Rattle.partition.proofs.tables.KeptLemmas.{bools_agree, filter-agree}
 use Rattle.difference.proofs.PieceOrder.{by_anchor-judged, by_net-judged, flat_map-agree, flat_map-map, pieces_are}
 use Rattle.difference.proofs.MeasuredLemmas.{All-from_In, class_below}
 

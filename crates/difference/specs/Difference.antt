@@ -1,5 +1,6 @@
 -- By what a measured partition differs from the nets.
-use Rattle.std.specs.Prelude.{ℕ, ◌==◌, ◌&&◌, Bool, not, nat_lt, List, map, filter, filter_map, flat_map, length, find, Option, Some, None, unwrap_or, option_map, if◌then◌else◌, slice_index_or}
+use Rattle.std.specs.Prelude.{ℕ, ◌==◌, ◌&&◌, Bool, not, nat_lt, List, map, filter, filter_map, flat_map, length, find, Option, Some, None, unwrap_or}
+use Rattle.std.specs.Prelude.{option_map, if◌then◌else◌, slice_index_or}
 use Rattle.std.specs.List.{list_any}
 use Rattle.partition.specs.Classes.{class_at}
 use Rattle.partition.specs.NetTable.{NetTable, all_nets, head_of, judged_points, numbered_nets}

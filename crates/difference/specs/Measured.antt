@@ -8,7 +8,8 @@
 --     pieces_along t m ps        the pieces that points make as they stand
 --     is_mixed t m n c           whether points of several nets, below n, are in a class
 --     AreMixed t m n marks       which classes are so, at the class's number
-use Rattle.std.specs.Prelude.{◌≡◌, ℕ, ◌-◌, ◌<◌, ◌==◌, ◌&&◌, Bool, false, not, nat_lt, List, [], ◌∷◌, ◌++◌, length, filter, fold, All, if◌then◌else◌, slice_index_or, slice_set}
+use Rattle.std.specs.Prelude.{◌≡◌, ℕ, ◌-◌, ◌<◌, ◌==◌, ◌&&◌, Bool, false, not, nat_lt, List, [], ◌∷◌, ◌++◌, length, filter, fold, All, if◌then◌else◌}
+use Rattle.std.specs.Prelude.{slice_index_or, slice_set}
 use Rattle.std.specs.List.{list_any, flat_map}
 use Rattle.partition.specs.Classes.{points_below, has, class_at, IsPartition}
 use Rattle.partition.specs.NetTable.{NetTable, all_nets, judged_points, net_at, net_count}

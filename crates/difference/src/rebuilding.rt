@@ -13,7 +13,8 @@ use base::Memory;
 use partition::{NO_POINT, Nets, Partition, Point, head_labels};
 use std::alloc::Global;
 
-/// The partition that a difference describes: points of equal label are together. The label of a point is the class of the last piece that holds it, else of the last short that names its net, else its net's head.
+/// The partition that a difference describes: points of equal label are together. The label of a point is the class of the last piece that
+/// holds it, else of the last short that names its net, else its net's head.
 pub fn rebuild(alloc: Global, nets: &Nets, d: &Difference) -> Result<Partition, Memory>
     requires { IsInRange nets.now d.now }
     ensures { IfOk result (λ p. p ≡ rebuilt nets.now d.now) }
@@ -51,7 +52,8 @@ fn label_shorts(labels: &mut [Point], nets: &Nets, shorts: &[Short])
 fn label_short(labels: &mut [Point], nets: &Nets, short: &Short)
     requires size { length labels.old ≡ nets.now.points }
     requires short { ShortIsOf nets.now.points (net_count nets.now) short.now }
-    ensures { (p : ℕ) → IsTrue (has (judged_points nets.now) p) → class_at labels.new p ≡ (if has short.now.nets (net_at nets.now p) then short.now.class else class_at labels.old p) }
+    ensures { (p : ℕ) → IsTrue (has (judged_points nets.now) p)
+        → class_at labels.new p ≡ (if has short.now.nets (net_at nets.now p) then short.now.class else class_at labels.old p) }
 {
     for net in short.nets.as_slice() {
         label(labels, nets.net(*net), short.class);

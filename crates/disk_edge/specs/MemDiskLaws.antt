@@ -11,12 +11,25 @@ use Rattle.disk_edge.specs.declared.mem_disk.Call.TheVariants.{Length, Read, Wri
 pub length-overwritten : (old : List ℕ) (at : ℕ) (bytes : List ℕ)
     → (length old ≤ length (overwritten old at bytes)) × (length (overwritten old at bytes) ≤ max (length old) (at + length bytes))
 length-overwritten old at bytes = (
-  omega (arith, length-append (take at old ++ bytes) (drop (at + length bytes) old), length-append (take at old) bytes, length-take at old, length-drop (at + length bytes) old),
-  omega (arith, length-append (take at old ++ bytes) (drop (at + length bytes) old), length-append (take at old) bytes, length-take at old, length-drop (at + length bytes) old),
+  omega (
+    arith,
+    length-append (take at old ++ bytes) (drop (at + length bytes) old),
+    length-append (take at old) bytes,
+    length-take at old,
+    length-drop (at + length bytes) old,
+  ),
+  omega (
+    arith,
+    length-append (take at old ++ bytes) (drop (at + length bytes) old),
+    length-append (take at old) bytes,
+    length-take at old,
+    length-drop (at + length bytes) old,
+  ),
 )
 
 -- the bytes outside the range stay
-pub overwritten_elsewhere : (old : List ℕ) (at : ℕ) (bytes : List ℕ) (place : ℕ) → place < length old → IsOutside place (record { from = at; to = at + length bytes })
+pub overwritten_elsewhere : (old : List ℕ) (at : ℕ) (bytes : List ℕ) (place : ℕ) → place < length old
+    → IsOutside place (record { from = at; to = at + length bytes })
     → slice_index (overwritten old at bytes) place ≡ slice_index old place
 overwritten_elsewhere old at bytes place lt (inl before) = search (rules, places)
 overwritten_elsewhere old at bytes place lt (inr behind) = search (rules, places)

@@ -10,9 +10,9 @@ use Rattle.std.proofs.lemmas.List.Sums.{fold-append}
 use Rattle.std.proofs.lemmas.Bool.Decides.{eqb_tells}
 use Rattle.partition.specs.Classes.{points_below, class_at, no_class, merged, classes_by, judged_in, joined_by}
 use Rattle.partition.specs.Partitions.{IsLabel}
-use Rattle.partition.proofs.WalkLaws.{merged_class, length-merged, point_class}
-use Rattle.partition.proofs.JoinedPartition.{joined_by-own}
-use Rattle.partition.proofs.JudgedPartition.{all-classing, classing-IsPartition}
+use Rattle.partition.proofs.classes.WalkLaws.{merged_class, length-merged, point_class}
+use Rattle.partition.proofs.classes.JoinedPartition.{joined_by-own}
+use Rattle.partition.proofs.classes.JudgedPartition.{all-classing, classing-IsPartition}
 use Rattle.rig.specs.declared.unit.Row.{Row}
 use Rattle.rig.specs.declared.unit.Row.TheVariants.{Wire, Resistor, Diode, Leak, Arc, Charge}
 use Rattle.rig.specs.Joins.{IsRowBelow, join_of, joins_of, joined_classes, most_join}

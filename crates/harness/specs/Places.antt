@@ -59,7 +59,8 @@ has_charge rows = fold charge_after false rows
 abbrev pub is_open : List HarnessRow → Bool
 is_open above = not (is_first above) && not (has_end above)
 
--- `points` is the first row; faults and doors stand before the first unit, the rows of a unit below it, one charge among them at most; nothing stands below `end`
+-- `points` is the first row; faults and doors stand before the first unit, the rows of a unit below it, one charge among them at most;
+-- nothing stands below `end`
 abbrev pub is_in_place : List HarnessRow → HarnessRow → Bool
 is_in_place above (Points n) = is_first above
 is_in_place above (Fault k) = is_open above && not (has_unit above)

@@ -4,7 +4,8 @@
 --     AreFaults, AreDoors        the numbers of the `fault` and `door` rows
 --     is_second classes rows j   an earlier element of the unit lies between the same two classes as the j-th
 --     IsSecond rows u j          the same of the unit at place u of the harness
-use Rattle.std.specs.Prelude.{◌≡◌, ◌↔◌, ◌≤◌, ◌+◌, ◌&&◌, ℕ, Bool, false, not, nat_lt, List, [], ◌∷◌, Option, Some, None, slice_get, take, drop, Contains, IsTrue, if◌then◌else◌}
+use Rattle.std.specs.Prelude.{◌≡◌, ◌↔◌, ◌≤◌, ◌+◌, ◌&&◌, ℕ, Bool, false, not, nat_lt, List, [], ◌∷◌, Option, Some, None, slice_get, take, drop}
+use Rattle.std.specs.Prelude.{Contains, IsTrue, if◌then◌else◌}
 use Rattle.std.specs.List.{list_any}
 use Rattle.std.specs.List.Sorted.{IsStrictlyIncreasing}
 use Rattle.rig.specs.declared.unit.Row.{Row}

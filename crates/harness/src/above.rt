@@ -3,7 +3,8 @@
 ghost use Rattle.std.specs.Prelude.{◌≡◌, ◌≤◌, ◌<◌, ◌++◌, ◌∷◌, ℕ, [], Some, false, length, IsTrue, IfOk, IfErr, MatchResult, string_bytes};
 ghost use Rattle.std.specs.List.{list_any};
 ghost use Rattle.harness.specs.Rows.{InRange};
-ghost use Rattle.harness.specs.Places.{is_first, is_unit_row, is_end, is_charge, charge_after, ends_of, are_ends, is_in_place, is_on_points, is_new, has_end, is_unit_of, Stands, StandBelow};
+ghost use Rattle.harness.specs.Places.{is_first, is_unit_row, is_end, is_charge, charge_after, ends_of, are_ends, is_in_place, is_on_points, is_new};
+ghost use Rattle.harness.specs.Places.{has_end, is_unit_of, Stands, StandBelow};
 ghost use Rattle.harness.specs.Harness.{most_lines};
 ghost use Rattle.harness.specs.Above.{unit_key, with_row, ReadsLine, RefusesLine, RefusesUnit};
 
@@ -181,7 +182,8 @@ impl Above {
     ) -> Result<Self, HarnessRefusal>
         requires in_range { InRange (HarnessRow.NewUnit serial attempt) }
         requires in_place { IsTrue (is_in_place self.rows (HarnessRow.NewUnit serial attempt)) }
-        ensures ok { IfOk result (λ new. (new ≡ with_row self (HarnessRow.NewUnit serial attempt) number) × IsTrue (is_new self.rows (HarnessRow.NewUnit serial attempt))) }
+        ensures ok { IfOk result (λ new. (new ≡ with_row self (HarnessRow.NewUnit serial attempt) number)
+            × IsTrue (is_new self.rows (HarnessRow.NewUnit serial attempt))) }
         ensures err { IfErr result (RefusesUnit self.rows (HarnessRow.NewUnit serial attempt) number) }
     {
         let key = key_of(alloc, &serial, attempt)?;

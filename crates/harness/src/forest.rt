@@ -13,7 +13,8 @@ use std::alloc::Global;
 /// A resistor of at most so many milliohms is a join.
 pub(crate) const MOST_JOIN: u64 = 10_000;
 
-/// Points in trees, each tree a class of joined points: a point's parent is no greater, and the root is the least point of its tree. Points that are not their own parent are listed.
+/// Points in trees, each tree a class of joined points: a point's parent is no greater, and the root is the least point of its tree. Points
+/// that are not their own parent are listed.
 #[derive(Drop)]
 pub(crate) struct Forest {
     parents: Vec<Point>,

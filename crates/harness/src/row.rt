@@ -136,7 +136,8 @@ fn read_wire(words: Words) -> Option<(Point, Point)>
 
 /// Two points, and a value from 1 to the greatest.
 fn read_valued(mut words: Words, most: u64) -> Option<(Point, Point, u64)>
-    ensures row { IfSome result (λ w. (words.entry ≡ decimal w.0 ∷ decimal w.1 ∷ decimal w.2 ∷ []) × (w.0 ≤ most_point) × (w.1 ≤ most_point) × (1 ≤ w.2) × (w.2 ≤ most)) }
+    ensures row { IfSome result (λ w. (words.entry ≡ decimal w.0 ∷ decimal w.1 ∷ decimal w.2 ∷ [])
+        × (w.0 ≤ most_point) × (w.1 ≤ most_point) × (1 ≤ w.2) × (w.2 ≤ most)) }
     ensures none { IfNone result ((a b n : ℕ) → a ≤ most_point → b ≤ most_point → 1 ≤ n → n ≤ most → words.entry ≢ decimal a ∷ decimal b ∷ decimal n ∷ []) }
 {
     let a = words.next()?;

@@ -14,7 +14,8 @@ use rig::Row;
 use std::alloc::Global;
 use std::collections::BTreeSet;
 
-/// The place of the first element of a unit between two different classes that an earlier one lies between too. The forest is of single points, and is so again.
+/// The place of the first element of a unit between two different classes that an earlier one lies between too. The forest is of single
+/// points, and is so again.
 pub(crate) fn second_of(
     alloc: Global,
     forest: &mut Forest,

@@ -104,7 +104,8 @@ fn each_refusal_has_its_line(rt: HostRuntime) -> Result<(), Fail> {
 #[test]
 fn a_unit_has_its_rows(rt: HostRuntime) -> Result<(), Fail> {
     let file =
-        b"points 4096\nfault 7\nfault 7\ndoor 2\nunit SN1 1\nresistor 0 2 10000\nresistor 0 2 20000\ndiode 3 4095 650\nleak 0 3 5\narc 0 3 750\ncharge 45 100\nunit SN1 2\nend";
+        b"points 4096\nfault 7\nfault 7\ndoor 2\nunit SN1 1\nresistor 0 2 10000\nresistor 0 2 20000\n\
+          diode 3 4095 650\nleak 0 3 5\narc 0 3 750\ncharge 45 100\nunit SN1 2\nend";
     let harness = Harness::read(rt.alloc(), file).ok().ok_or("refused")?;
     assert_eq!(rt; harness.points, 4096);
     assert!(rt;

@@ -9,7 +9,7 @@ use Rattle.std.proofs.lemmas.List.Kept.{AllPairs-cons}
 use Rattle.partition.specs.Classes.{has}
 use Rattle.partition.specs.NetTable.{judged_points}
 use Rattle.partition.proofs.Members.{In, In-has}
-use Rattle.partition.proofs.NetLaws.{Contains-In}
+use Rattle.partition.proofs.tables.NetLaws.{Contains-In}
 use Rattle.rig.specs.declared.event.Leak.{Leak}
 use Rattle.rig.specs.declared.event.Leak.TheVariants.{PicoSiemens}
 use Rattle.rig.specs.declared.unit.Row.{Row}

@@ -19,8 +19,8 @@ use Rattle.applications.specs.Counting.{Gains, TalliesMore}
 use Rattle.applications.specs.Each.{MeasuresAll, MeasuresEach, leak_between}
 use Rattle.applications.specs.Measuring.{StopsAtRest}
 use Rattle.applications.proofs.Counted.{gains-less, gains-none, tallies-more}
-use Rattle.applications.proofs.LeakEach.{measures-before}
-use Rattle.applications.proofs.Runs.{Runs-none}
+use Rattle.applications.proofs.one_by_one.LeakEach.{measures-before}
+use Rattle.applications.proofs.one_by_one.Runs.{Runs-none}
 use Rattle.cluster_groups.specs.Laws.{IsClusterable}
 use Rattle.hv.specs.Insulating.{AreStated, Insulates, Measured, cluster_leaks, faults_from, insulation_faults}
 use Rattle.hv.specs.Routes.{against_others, cluster_pairs, tested_clusters}

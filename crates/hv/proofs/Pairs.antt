@@ -7,12 +7,12 @@ use Rattle.std.proofs.lemmas.List.FromFn.{get_or-map-range_with_len, get_or-rang
 use Rattle.partition.specs.Classes.{class_at, points_below}
 use Rattle.partition.specs.NetTable.{judged_points, net_at, programmed_of}
 use Rattle.partition.specs.Partitions.{JoinsAllOf}
-use Rattle.partition.proofs.ClassLaws.{classes_by-IsPartition, classes_by-same, length-classes_by, same-classes_by}
+use Rattle.partition.proofs.classes.ClassLaws.{classes_by-IsPartition, classes_by-same, length-classes_by, same-classes_by}
 use Rattle.partition.proofs.DigitLaws.{digits_least}
-use Rattle.partition.proofs.JudgedPartition.{class-js}
+use Rattle.partition.proofs.classes.JudgedPartition.{class-js}
 use Rattle.partition.proofs.Members.{In}
-use Rattle.partition.proofs.KeptLemmas.{In-points_below}
-use Rattle.partition.proofs.NetLaws.{judged-ascends, judged-below}
+use Rattle.partition.proofs.tables.KeptLemmas.{In-points_below}
+use Rattle.partition.proofs.tables.NetLaws.{judged-ascends, judged-below}
 use Rattle.rig.specs.Calls.{IsGroup}
 use Rattle.wirelist.specs.declared.program.Program.{Program}
 use Rattle.wirelist.specs.Clusters.{cluster_classes, cluster_count, cluster_first_at, clusters_of, net_clusters, others, side}

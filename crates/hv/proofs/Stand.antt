@@ -7,7 +7,7 @@ use Rattle.partition.specs.Classes.{points_below}
 use Rattle.partition.specs.Digits.{digits_of}
 use Rattle.partition.specs.Heads.{heads_below}
 use Rattle.partition.specs.NetTable.{net_count}
-use Rattle.partition.proofs.HeadLemmas.{length-heads_below-grows}
+use Rattle.partition.proofs.classes.HeadLemmas.{length-heads_below-grows}
 use Rattle.partition.proofs.DigitLaws.{digits_enough, digits_least}
 use Rattle.rig.specs.declared.event.Leak.{Leak}
 use Rattle.rig.specs.declared.unit.Row.{Row}
@@ -27,8 +27,8 @@ use Rattle.applications.specs.Enduring.{HoldsBelow, IsEndurance, breaks_down}
 use Rattle.applications.specs.Measuring.{StopsAtRest}
 use Rattle.applications.specs.Standing.{EndsBroken, TellsBetween}
 use Rattle.applications.proofs.Counted.{gains-less, gains-none, tallies-more}
-use Rattle.applications.proofs.EnduredEach.{broken-before, stands-before}
-use Rattle.applications.proofs.Runs.{Runs-none}
+use Rattle.applications.proofs.one_by_one.EnduredEach.{broken-before, stands-before}
+use Rattle.applications.proofs.one_by_one.Runs.{Runs-none}
 use Rattle.cluster_groups.specs.Laws.{IsClusterable}
 use Rattle.hv.specs.declared.withstanding.WithstandFault.{WithstandFault}
 use Rattle.hv.specs.Routes.{bit_pairs, sides_of_bit, tested_bits}

@@ -6,11 +6,11 @@ use Rattle.std.proofs.lemmas.List.Elements.{All-cons, All-nil}
 use Rattle.partition.specs.Classes.{class_at, Same}
 use Rattle.partition.specs.Heads.{heads_below, heads, heads_to}
 use Rattle.partition.specs.Partitions.{HasClass, IsClassing}
-use Rattle.partition.proofs.JudgedPartition.{class-has_class, class-inside}
+use Rattle.partition.proofs.classes.JudgedPartition.{class-has_class, class-inside}
 use Rattle.rig.specs.declared.event.Event.TheVariants.{Reading}
 use Rattle.isolate.specs.Counts.{judged_to, ReadsJudged}
 use Rattle.isolate.proofs.JudgedCounts.{heads_grow}
-use Rattle.partition.proofs.HeadLemmas.{heads_below-head, heads_below-other}
+use Rattle.partition.proofs.classes.HeadLemmas.{heads_below-head, heads_below-other}
 use Rattle.rig.specs.declared.rig.RigStop.TheVariants.{Memory}
 use Rattle.rig.specs.RigState.{RigState}
 use Rattle.rig.specs.Calls.{AreGroups}

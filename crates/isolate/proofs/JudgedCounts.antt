@@ -7,14 +7,14 @@ use Rattle.partition.specs.Classes.{points_below, class_at, has, no_class}
 use Rattle.partition.specs.Partitions.{HasClass}
 use Rattle.partition.specs.Heads.{heads_below, heads, heads_to}
 use Rattle.partition.specs.NetTable.{NetTable, IsNetTable, judged_points, net_at, programmed_of}
-use Rattle.partition.proofs.ClassLaws.{points_below-AllBelow}
-use Rattle.partition.proofs.Programmed.{programmed-IsPartition}
-use Rattle.partition.proofs.FieldLaw.{judged_law}
-use Rattle.partition.proofs.HeadLemmas.{heads_below-head, heads_below-other, points_below-suc}
-use Rattle.partition.proofs.KeptLemmas.{filter-agree}
+use Rattle.partition.proofs.classes.ClassLaws.{points_below-AllBelow}
+use Rattle.partition.proofs.classes.Programmed.{programmed-IsPartition}
+use Rattle.partition.proofs.classes.FieldLaw.{judged_law}
+use Rattle.partition.proofs.classes.HeadLemmas.{heads_below-head, heads_below-other, points_below-suc}
+use Rattle.partition.proofs.tables.KeptLemmas.{filter-agree}
 use Rattle.partition.proofs.Members.{In-has}
-use Rattle.partition.proofs.NetLaws.{judged-below, judged-is}
-use Rattle.partition.proofs.ClassLaws.{length-classes_by}
+use Rattle.partition.proofs.tables.NetLaws.{judged-below, judged-is}
+use Rattle.partition.proofs.classes.ClassLaws.{length-classes_by}
 use Rattle.isolate.specs.Counts.{judged_to}
 
 module _ (classes : List ℕ) where

@@ -9,13 +9,13 @@ use Rattle.std.proofs.lemmas.List.{get_or_default}
 use Rattle.std.proofs.lemmas.List.Elements.{Contains-append_cases, Contains-get_or}
 use Rattle.partition.specs.Classes.{class_at, Same, merged, no_class}
 use Rattle.partition.specs.Partitions.{HasClass, IsClassing, IsOver, JoinsAllOf}
-use Rattle.partition.proofs.JudgedPartition.{class-has_class, class-inside, merged-classing, merged-has_class}
+use Rattle.partition.proofs.classes.JudgedPartition.{class-has_class, class-inside, merged-classing, merged-has_class}
 use Rattle.partition.specs.Heads.{heads}
 use Rattle.partition.specs.Digits.{digits_of}
 use Rattle.partition.proofs.DigitLaws.{digits_enough, digits_least}
-use Rattle.partition.proofs.HeadLemmas.{heads_below-are, heads_below-has, heads_below-increasing, heads_of_some}
+use Rattle.partition.proofs.classes.HeadLemmas.{heads_below-are, heads_below-has, heads_below-increasing, heads_of_some}
 use Rattle.partition.proofs.PickedLemmas.{increasing_same}
-use Rattle.partition.proofs.WalkLaws.{length-merged, merged_class}
+use Rattle.partition.proofs.classes.WalkLaws.{length-merged, merged_class}
 use Rattle.rig.specs.RigState.{RigState}
 use Rattle.rig.specs.Calls.{AreGroups}
 use Rattle.rig.specs.Trail.{Extends, Forces, ReadsAmong}

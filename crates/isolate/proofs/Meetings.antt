@@ -4,7 +4,7 @@ use Rattle.std.specs.Prelude.{IfSome, IfOk, IfErr}
 use Rattle.partition.specs.Classes.{judged_in}
 use Rattle.partition.specs.Heads.{heads}
 use Rattle.partition.specs.Partitions.{IsOver, JoinsAllOf}
-use Rattle.partition.proofs.HeadLemmas.{heads_of_some}
+use Rattle.partition.proofs.classes.HeadLemmas.{heads_of_some}
 use Rattle.rig.specs.declared.event.Event.{Event}
 use Rattle.rig.specs.declared.event.Event.TheVariants.{Reading}
 use Rattle.rig.specs.declared.unit.Row.{Row}

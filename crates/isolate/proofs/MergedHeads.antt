@@ -4,8 +4,8 @@ use Rattle.std.proofs.lemmas.Bool.{cases_eq}
 use Rattle.std.proofs.lemmas.List.{length_push}
 use Rattle.partition.specs.Classes.{class_at, merged}
 use Rattle.partition.specs.Heads.{heads_below, heads}
-use Rattle.partition.proofs.HeadLemmas.{heads_below-head, heads_below-other}
-use Rattle.partition.proofs.WalkLaws.{length-merged}
+use Rattle.partition.proofs.classes.HeadLemmas.{heads_below-head, heads_below-other}
+use Rattle.partition.proofs.classes.WalkLaws.{length-merged}
 use Rattle.learn.proofs.HeadMerge.{merged-moved, merged-stays, merged-heads_below, merged-not_head}
 
 module _ (m : List ℕ) (a b : ℕ) (low : (p : ℕ) → p < length m → class_at m p ≡ max a b → class_at m p ≤ p) (in_a : a < length m) (in_b : b < length m)

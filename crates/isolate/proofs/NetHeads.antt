@@ -3,14 +3,14 @@ use Rattle.std.proofs.Common.{◌≡◌, ◌<◌, ℕ, List, [], ◌∷◌, leng
 use Rattle.std.specs.List.Sorted.{IsStrictlyIncreasing}
 use Rattle.partition.specs.Classes.{class_at, has}
 use Rattle.partition.specs.NetTable.{NetTable, IsNetTable, all_nets, net_at, judged_points, programmed_of, head_of}
-use Rattle.partition.proofs.ClassLaws.{class_at-classes_by, has-head, length-classes_by}
-use Rattle.partition.proofs.NetLaws.{judged-ascends, judged-below}
-use Rattle.partition.proofs.Programmed.{programmed-IsPartition}
-use Rattle.partition.proofs.JudgedPartition.{class-js, js-class}
+use Rattle.partition.proofs.classes.ClassLaws.{class_at-classes_by, has-head, length-classes_by}
+use Rattle.partition.proofs.tables.NetLaws.{judged-ascends, judged-below}
+use Rattle.partition.proofs.classes.Programmed.{programmed-IsPartition}
+use Rattle.partition.proofs.classes.JudgedPartition.{class-js, js-class}
 use Rattle.partition.specs.Partitions.{HasClass}
-use Rattle.partition.proofs.FirstPoint.{head_of-first}
-use Rattle.partition.proofs.KeptLemmas.{net_at-below}
-use Rattle.partition.proofs.NetClasses.{net_some, net_increasing, first_class}
+use Rattle.partition.proofs.classes.FirstPoint.{head_of-first}
+use Rattle.partition.proofs.tables.KeptLemmas.{net_at-below}
+use Rattle.partition.proofs.tables.NetClasses.{net_some, net_increasing, first_class}
 
 head_of-increasing : (net : List ℕ) → 0 < length net → IsStrictlyIncreasing net → head_of net ≡ get_or net 0 0
 head_of-increasing [] some up = absurd (omega arith)

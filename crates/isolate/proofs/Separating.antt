@@ -11,7 +11,7 @@ use Rattle.partition.specs.Partitions.{HasClass}
 use Rattle.partition.specs.Heads.{heads}
 use Rattle.partition.specs.Digits.{digits_of}
 use Rattle.partition.proofs.DigitLaws.{digits_enough, digits_least}
-use Rattle.partition.proofs.HeadLemmas.{heads_below-are, heads_below-increasing}
+use Rattle.partition.proofs.classes.HeadLemmas.{heads_below-are, heads_below-increasing}
 use Rattle.rig.specs.RigState.{RigState}
 use Rattle.rig.specs.Calls.{AreGroups, Conducts}
 use Rattle.rig.specs.Trail.{Extends, Forces, ReadsAmong}

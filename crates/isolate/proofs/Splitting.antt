@@ -14,11 +14,11 @@ use Rattle.partition.specs.NetTable.{NetTable, IsNetTable, judged_points, progra
 use Rattle.partition.specs.Partitions.{HasClass, IsClassing, IsOver}
 use Rattle.partition.proofs.DigitLaws.{digits_least}
 use Rattle.partition.proofs.DigitsLemmas.{digits-mono}
-use Rattle.partition.proofs.HeadLemmas.{heads_below-are, heads_below-has, heads_below-head, heads_below-other, heads_below-increasing}
-use Rattle.partition.proofs.JudgedPartition.{class-has_class, class-inside}
+use Rattle.partition.proofs.classes.HeadLemmas.{heads_below-are, heads_below-has, heads_below-head, heads_below-other, heads_below-increasing}
+use Rattle.partition.proofs.classes.JudgedPartition.{class-has_class, class-inside}
 use Rattle.partition.proofs.Members.{In-filter, In-filter_cases}
-use Rattle.partition.proofs.NetClasses.{programmed_valid}
-use Rattle.partition.proofs.NetLaws.{Contains-In, In-index}
+use Rattle.partition.proofs.tables.NetClasses.{programmed_valid}
+use Rattle.partition.proofs.tables.NetLaws.{Contains-In, In-index}
 use Rattle.rig.specs.RigState.{RigState}
 use Rattle.rig.specs.Calls.{AreGroups}
 use Rattle.rig.specs.Readings.{Reads}

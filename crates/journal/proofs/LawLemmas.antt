@@ -3,7 +3,7 @@ use Rattle.std.proofs.Common.{◌≡◌, ⊎_elim, ℕ, List, ◌∷◌, ◌++�
 use Rattle.journal.specs.Format.{sized, written, Holds, AtRest, Covers}
 use Rattle.journal.specs.Laws.{HasOneReading}
 use Rattle.journal.proofs.Bytes.{written_unique, sized_unique}
-use Rattle.journal.proofs.Keeping.{covers_holds}
+use Rattle.journal.proofs.writing.Keeping.{covers_holds}
 
 covered_split : (file : List ℕ) (bodies : List (List ℕ)) (body : List ℕ) (c : Covers file bodies body) → file ≡ written bodies ++ (c.gate ∷ (sized body ++ 0 ∷ c.rest))
 covered_split file bodies body c = c.bytes ∙ append_assoc (written bodies) (c.gate ∷ sized body) (0 ∷ c.rest)

@@ -1,13 +1,4 @@
-pub mod Between
 pub mod Bytes
-pub mod Closing
-pub mod Entries
-pub mod Keeping
 pub mod LawLemmas
-pub mod Opened
-pub mod Opens
-pub mod Places
-pub mod PutLeaves
-pub mod Reach
-pub mod Stages
-pub mod Wrong
+pub mod writing
+pub mod wholes

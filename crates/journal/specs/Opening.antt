@@ -64,7 +64,8 @@ pub record IsBad (file : List ℕ) (number place : ℕ) : Type 0 where
 -- What an opening makes of a sound file, wherever it is stopped: a file of at most 9 bytes stays one, and a covered entry may come to the others.
 abbrev pub MayMake : List ℕ → List ℕ → Type 0
 MayMake file image =
-    ((length file ≤ 9) × (length image ≤ 9)) ⊎ ((bodies : List (List ℕ)) × (body : List ℕ) × Covers file bodies body × IsBeforeOrAfter bodies body image × (length image ≡ length file))
+    ((length file ≤ 9) × (length image ≤ 9))
+    ⊎ ((bodies : List (List ℕ)) × (body : List ℕ) × Covers file bodies body × IsBeforeOrAfter bodies body image × (length image ≡ length file))
 
 -- an open gate stands there
 abbrev pub IsOpen : List ℕ → ℕ → Type 0

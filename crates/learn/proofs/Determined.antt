@@ -4,8 +4,8 @@ use Rattle.std.specs.Prelude.{Contains}
 use Rattle.partition.specs.Classes.{Same, class_at}
 use Rattle.partition.specs.Partitions.{HasClass, IsClassing, IsOver, JoinsAllOf}
 use Rattle.partition.specs.Heads.{heads}
-use Rattle.partition.proofs.HeadLemmas.{heads_below-has}
-use Rattle.partition.proofs.JudgedPartition.{class-has_class, class-inside, same_classing}
+use Rattle.partition.proofs.classes.HeadLemmas.{heads_below-has}
+use Rattle.partition.proofs.classes.JudgedPartition.{class-has_class, class-inside, same_classing}
 use Rattle.rig.specs.RigState.{RigState}
 use Rattle.rig.specs.Trail.{Agrees, Forces, Determines}
 use Rattle.learn.specs.Groups.{IsPossible}

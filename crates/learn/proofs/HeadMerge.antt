@@ -4,8 +4,8 @@ use Rattle.std.proofs.lemmas.Bool.{cases_eq}
 use Rattle.std.proofs.lemmas.Bool.Decides.{eqb_tells}
 use Rattle.partition.specs.Classes.{class_at, merged}
 use Rattle.partition.specs.Heads.{heads_below}
-use Rattle.partition.proofs.HeadLemmas.{heads_below-head, heads_below-other}
-use Rattle.partition.proofs.WalkLaws.{merged_class}
+use Rattle.partition.proofs.classes.HeadLemmas.{heads_below-head, heads_below-other}
+use Rattle.partition.proofs.classes.WalkLaws.{merged_class}
 
 -- equal class numbers below n, equal heads below n
 pub heads_below-agree : (m other : List ℕ) (n : ℕ) → ((p : ℕ) → p < n → class_at m p ≡ class_at other p) → heads_below m n ≡ heads_below other n

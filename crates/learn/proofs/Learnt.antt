@@ -9,14 +9,14 @@ use Rattle.std.proofs.lemmas.List.Elements.{Contains-push_cases, Contains-get_or
 use Rattle.std.proofs.lemmas.List.FromFn.{length-range_with_len}
 use Rattle.partition.specs.Classes.{points_below, class_at, Same, merged, no_class}
 use Rattle.partition.specs.Partitions.{HasClass, IsPartitionOfAll}
-use Rattle.partition.proofs.JudgedPartition.{all-class, all-classing, class-inside}
+use Rattle.partition.proofs.classes.JudgedPartition.{all-class, all-classing, class-inside}
 use Rattle.partition.specs.Digits.{digits_of}
 use Rattle.partition.specs.Heads.{heads_below, heads}
 use Rattle.partition.proofs.DigitLaws.{digits_least}
 use Rattle.partition.proofs.DigitsLemmas.{digits-mono}
-use Rattle.partition.proofs.HeadLemmas.{heads_below-are, heads_below-head, heads_below-other, heads_below-increasing, length-heads_below-grows}
-use Rattle.partition.proofs.WalkLaws.{point_class, length-merged}
-use Rattle.partition.proofs.JoinedPartition.{merged-own}
+use Rattle.partition.proofs.classes.HeadLemmas.{heads_below-are, heads_below-head, heads_below-other, heads_below-increasing, length-heads_below-grows}
+use Rattle.partition.proofs.classes.WalkLaws.{point_class, length-merged}
+use Rattle.partition.proofs.classes.JoinedPartition.{merged-own}
 use Rattle.rig.specs.RigState.{RigState}
 use Rattle.rig.specs.Calls.{AreGroups}
 use Rattle.rig.specs.Readings.{Reads}

@@ -7,7 +7,7 @@ use Rattle.std.proofs.lemmas.List.Elements.{All-contains, Contains-get_or}
 use Rattle.partition.specs.Classes.{class_at}
 use Rattle.partition.specs.NetTable.{head_of}
 use Rattle.partition.specs.Partitions.{HasClass}
-use Rattle.partition.proofs.FirstPoint.{head_of-first}
+use Rattle.partition.proofs.classes.FirstPoint.{head_of-first}
 use Rattle.rig.specs.declared.rig.RigStop.{RigStop}
 use Rattle.rig.specs.RigState.{RigState}
 use Rattle.rig.specs.Calls.{AreGroups, IsGroup}

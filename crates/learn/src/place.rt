@@ -75,7 +75,7 @@ fn least_points(alloc: Global, groups: &PointLists) -> Result<PointList, Memory>
 {
     let mut list = PointList::new(alloc);
     for i in 0..groups.len() {
-        list.push(groups.get(i)[0])?;
+        list.push(groups.as_slice()[i].as_slice()[0])?;
     }
     Ok(list)
 }

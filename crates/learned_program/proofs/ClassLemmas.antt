@@ -11,8 +11,8 @@ use Rattle.partition.specs.Classes.{points_below, has, class_at}
 use Rattle.partition.specs.Heads.{heads}
 use Rattle.partition.specs.NetTable.{IsNetTable, Disjoint}
 use Rattle.partition.specs.NetFaults.{ascending_net}
-use Rattle.partition.proofs.HeadLemmas.{points_below-suc}
-use Rattle.partition.proofs.KeptLemmas.{all_judged, filter-agree, In-points_below, points_below-In}
+use Rattle.partition.proofs.classes.HeadLemmas.{points_below-suc}
+use Rattle.partition.proofs.tables.KeptLemmas.{all_judged, filter-agree, In-points_below, points_below-In}
 use Rattle.partition.proofs.Members.{In, In-filter, In-filter_cases, In-map, In-map_cases, has-In, In-has}
 use Rattle.learned_program.proofs.ListLemmas.{index-In, In-Contains, AllPairs-map, map-kept}
 use Rattle.learned_program.specs.LearnedProgram.{class_points, learned_nets, learned_table}

@@ -9,10 +9,10 @@ use Rattle.partition.specs.NetTable.{NetTable, IsNetTable, judged_points}
 use Rattle.partition.specs.NetFaults.{listed, listed_before, point_faults, net_faults, none_judged, first_fault}
 use Rattle.partition.specs.declared.nets.NetsRefusal.{NetsRefusal}
 use Rattle.partition.specs.declared.nets.NetsRefusal.TheVariants.{OutOfRange, Twice, EmptyNet}
-use Rattle.partition.proofs.ClaimLemmas.{has-append_cases}
-use Rattle.partition.proofs.KeptLemmas.{In-points_below}
+use Rattle.partition.proofs.tables.ClaimLemmas.{has-append_cases}
+use Rattle.partition.proofs.tables.KeptLemmas.{In-points_below}
 use Rattle.partition.proofs.Members.{In, has-In, In-has}
-use Rattle.partition.proofs.NetLaws.{In-index, Contains-In, judged-below}
+use Rattle.partition.proofs.tables.NetLaws.{In-index, Contains-In, judged-below}
 use Rattle.partition.proofs.PickedLemmas.{increasing_same}
 
 none_in : {A : Type 0} (f : ℕ → List A) (xs : List ℕ) → ((x : ℕ) → In x xs → f x ≡ []) → flat_map f xs ≡ []

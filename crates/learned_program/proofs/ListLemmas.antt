@@ -4,7 +4,7 @@ use Rattle.std.specs.Prelude.{AllPairs}
 use Rattle.std.proofs.lemmas.List.{get_or-map, length-map}
 use Rattle.partition.specs.Classes.{has}
 use Rattle.partition.proofs.Members.{In}
-use Rattle.partition.proofs.NetLaws.{In-index}
+use Rattle.partition.proofs.tables.NetLaws.{In-index}
 
 pub index-In : {X : Type 0} (xs : List X) (i : ℕ) (d : X) → i < length xs → In (get_or xs i d) xs
 index-In [] i d l = absurd (omega arith)

@@ -6,11 +6,11 @@ use Rattle.partition.specs.Classes.{points_below, has, class_at, classes_by, Sam
 use Rattle.partition.specs.Partitions.{IsPartitionOfAll}
 use Rattle.partition.specs.NetTable.{IsNetTable, all_nets, judged_points, net_at, programmed_of}
 use Rattle.partition.specs.Claims.{lone_points}
-use Rattle.partition.proofs.ClassLaws.{classes_by-agree, eqb-agree, has-cases, has-points_below, points_below-AllBelow}
-use Rattle.partition.proofs.JoinedPartition.{own-IsPartition}
-use Rattle.partition.proofs.KeptLemmas.{all_judged, net_at-is, net_at-below}
+use Rattle.partition.proofs.classes.ClassLaws.{classes_by-agree, eqb-agree, has-cases, has-points_below, points_below-AllBelow}
+use Rattle.partition.proofs.classes.JoinedPartition.{own-IsPartition}
+use Rattle.partition.proofs.tables.KeptLemmas.{all_judged, net_at-is, net_at-below}
 use Rattle.partition.proofs.Members.{In, In-append_cases, In-map_cases}
-use Rattle.partition.proofs.NetLaws.{In-index, net_facts}
+use Rattle.partition.proofs.tables.NetLaws.{In-index, net_facts}
 use Rattle.learned_program.specs.LearnedProgram.{class_points, learned_nets, learned_table}
 use Rattle.learned_program.proofs.ClassLemmas.{in_class, class_has, learned_net, class_learned, learned_valid}
 use Rattle.learned_program.proofs.FaultlessNets.{has-place}

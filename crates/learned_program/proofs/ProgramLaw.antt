@@ -7,7 +7,7 @@ use Rattle.std.proofs.lemmas.List.FromFn.{length-map-range_with_len, get_or-map-
 use Rattle.std.proofs.lemmas.List.Sums.{length-filter, count_by-le-length}
 use Rattle.partition.specs.Heads.{heads}
 use Rattle.partition.specs.Names.{IsName}
-use Rattle.partition.proofs.HeadLemmas.{heads_le}
+use Rattle.partition.proofs.classes.HeadLemmas.{heads_le}
 use Rattle.wirelist.specs.Programs.{IsProgram}
 use Rattle.wirelist.specs.Ranges.{most_points}
 use Rattle.learned_program.specs.LearnedProgram.{class_points, learned_nets, learned_name, learned_names, learned_program}

@@ -8,7 +8,7 @@ use Rattle.disk_edge.proofs.Moments.{weaker}
 use Rattle.journal.specs.Format as journal
 use Rattle.journal.specs.Format.{AtRest, IsBeforeOrAfter, IsFull, end_after}
 use Rattle.journal.specs.Journal.{HasEntries, TellsEntries}
-use Rattle.journal.proofs.Keeping.{at_rest_holds, covers_holds}
+use Rattle.journal.proofs.writing.Keeping.{at_rest_holds, covers_holds}
 use Rattle.records.specs.declared.record.StationRecord.{StationRecord}
 use Rattle.records.specs.RecordBytes.{record_bytes}
 use Rattle.records.specs.RecordRanges.{IsRecord}

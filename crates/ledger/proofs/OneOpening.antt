@@ -4,7 +4,7 @@ use Rattle.std.proofs.lemmas.List.{length-map}
 use Rattle.std.proofs.lemmas.List.Elements.{All-head, All-tail}
 use Rattle.journal.specs.Format.{end_after}
 use Rattle.journal.proofs.LawLemmas as journal
-use Rattle.journal.proofs.Wrong.{one_wrong, not_wrong}
+use Rattle.journal.proofs.wholes.Wrong.{one_wrong, not_wrong}
 use Rattle.records.specs.declared.record.StationRecord.{StationRecord}
 use Rattle.records.specs.RecordBytes.{record_bytes}
 use Rattle.records.specs.RecordRanges.{IsRecord, Spells}

@@ -2,10 +2,10 @@
 use Rattle.std.proofs.Common.{◌≡◌, inl, inr, ℕ, ◌+◌, ◌<◌, ◌≤◌, Bool, true, false, cond, ◌&&◌, List, [], ◌∷◌, filter, refl, ap, arith, ◌∙◌}
 use Rattle.std.specs.List.Sorted.{IsStrictlyIncreasing}
 use Rattle.partition.specs.Classes.{points_below, has, AscendsFrom}
-use Rattle.partition.proofs.ClassLaws.{has-head, has-tail, has-cases, has-above, has-points_below, range-ascends}
-use Rattle.partition.proofs.FirstPoint.{tail_rises}
+use Rattle.partition.proofs.classes.ClassLaws.{has-head, has-tail, has-cases, has-above, has-points_below, range-ascends}
+use Rattle.partition.proofs.classes.FirstPoint.{tail_rises}
 use Rattle.partition.proofs.Members.{In-filter, In-filter_cases, has-In, In-has}
-use Rattle.partition.proofs.NetLaws.{filter-ascends}
+use Rattle.partition.proofs.tables.NetLaws.{filter-ascends}
 
 pub filter-filter : {X : Type 0} (s r : X → Bool) (xs : List X) → filter s (filter r xs) ≡ filter (λ x. r x && s x) xs
 filter-filter s r [] = refl

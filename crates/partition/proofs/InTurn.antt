@@ -7,9 +7,9 @@ use Rattle.std.proofs.lemmas.List.Kept.{AllPairs-cons, AllPairs-from_increasing}
 use Rattle.std.proofs.lemmas.List.Sums.{sum_by-cons}
 use Rattle.partition.specs.Classes.{AscendsFrom}
 use Rattle.partition.proofs.Members.{In, In-append_cases, In-map_cases, In-filter, In-filter_cases, In-flat_map_cases, In-filter_map_cases, In-has, In-enumerate}
-use Rattle.partition.proofs.ClassLaws.{has-above}
-use Rattle.partition.proofs.Labels.{false_not, neq-eqb}
-use Rattle.partition.proofs.NetLaws.{In-index}
+use Rattle.partition.proofs.classes.ClassLaws.{has-above}
+use Rattle.partition.proofs.classes.Labels.{false_not, neq-eqb}
+use Rattle.partition.proofs.tables.NetLaws.{In-index}
 
 -- R holds of each item and each later one
 abbrev pub InTurn : {X : Type 0} → (X → X → Type 0) → List X → Type 0

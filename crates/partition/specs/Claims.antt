@@ -6,7 +6,8 @@
 --     owned_by owners k          the points of one owner, ascending
 --     NumberedAlone ..           the points of no list have numbers of their own, and the ignored ones have none
 --     IsKeptNets ..              what `Nets` keeps
-use Rattle.std.specs.Prelude.{◌≡◌, ◌≢◌, ℕ, ◌-◌, ◌<◌, ◌≤◌, ◌^◌, ◌==◌, not, List, [], ◌++◌, ◌+◌, length, take, filter, slice_index_or, IsTrue, IsFalse, if◌then◌else◌}
+use Rattle.std.specs.Prelude.{◌≡◌, ◌≢◌, ℕ, ◌-◌, ◌<◌, ◌≤◌, ◌^◌, ◌==◌, not, List, [], ◌++◌, ◌+◌, length, take, filter, slice_index_or, IsTrue, IsFalse}
+use Rattle.std.specs.Prelude.{if◌then◌else◌}
 use Rattle.std.specs.List.{concat, flat_map, list_any}
 use Rattle.partition.specs.Classes.{points_below, has, no_class}
 use Rattle.partition.specs.NetTable.{NetTable, IsNetTable, all_nets, judged_points, net_at, net_count}
@@ -24,7 +25,8 @@ owner_at owners p = slice_index_or owners p nobody
 -- the points that are listed have their net as owner, each is listed once, and no other point has an owner
 pub record Claimed (heard : List (List ℕ)) (owners : List ℕ) : Type 0 where
   pub marked : (k p : ℕ) → k < length heard → IsTrue (has (slice_index_or heard k []) p) → (p < length owners) × (owner_at owners p ≡ k)
-  pub owned : (p : ℕ) → p < length owners → owner_at owners p ≢ nobody → (owner_at owners p < length heard) × IsTrue (has (slice_index_or heard (owner_at owners p) []) p)
+  pub owned : (p : ℕ) → p < length owners → owner_at owners p ≢ nobody
+      → (owner_at owners p < length heard) × IsTrue (has (slice_index_or heard (owner_at owners p) []) p)
   pub counted : length (concat heard) ≡ length (filter (λ o. not (o == nobody)) owners)
 
 -- so it is for the first i nets, which have no fault
@@ -54,7 +56,8 @@ pub record ClaimedAll (lists : List (List ℕ)) (i : ℕ) (owners : List ℕ) : 
 abbrev pub owned_by : List ℕ → ℕ → List ℕ
 owned_by owners k = filter (λ p. owner_at owners p == k) (points_below (length owners))
 
--- The points of the lists below `first` keep their owner, those of list `first` get none; a point alone has the number of its place among those, after the others.
+-- The points of the lists below `first` keep their owner, those of list `first` get none; a point alone has the number of its place among
+-- those, after the others.
 pub record NumberedAlone (owners : List ℕ) (first : ℕ) (alone numbers : List ℕ) : Type 0 where
   pub kept : (p : ℕ) → owner_at owners p ≢ nobody → owner_at owners p ≢ first → owner_at numbers p ≡ owner_at owners p
   pub ignored : (p : ℕ) → p < length owners → owner_at owners p ≡ first → owner_at numbers p ≡ nobody

@@ -3,60 +3,15 @@
 ghost use Rattle.std.specs.Prelude.{◌≡◌, ◌↔◌, IsTrue};
 
 use crate::{Point, PointList};
-use base::Memory;
+use base::{Items, Memory};
 use std::alloc::Global;
 use std::marker::Model;
 
 /// A list of groups of points.
-#[derive(Debug, Drop)]
-pub struct PointLists {
-    lists: Vec<PointList>,
-}
+pub type PointLists = Items<PointList>;
 
-impl Model for PointLists {
-    ghost use Rattle.std.specs.Prelude.{ℕ, List};
-
-    ghost Value = { List (List ℕ) };
-
-    ghost view = { λ l. l.lists.items };
-}
-
-impl PointLists {
-    ghost use Rattle.std.specs.Prelude.{◌≡◌, ◌++◌, ◌∷◌, ◌<◌, [], length, slice_index_or, OnOk, OnErr};
-
-    /// The empty list.
-    pub fn new(alloc: Global) -> Self
-        ensures { result ≡ [] }
-    {
-        PointLists {
-            lists: Vec::new(alloc),
-        }
-    }
-
-    /// How many groups there are.
-    pub fn len(&self) -> usize
-        ensures { result ≡ length self.now }
-    {
-        self.lists.len()
-    }
-
-    /// The points of the group with this number.
-    pub fn get(&self, i: usize) -> &[Point]
-        requires { i < length self.now }
-        ensures { result.now ≡ slice_index_or self.now i [] }
-    {
-        self.lists[i].as_slice()
-    }
-
-    /// Appends a group.
-    pub fn push(&mut self, group: PointList) -> Result<(), Memory>
-        ensures ok { OnOk result (self.new ≡ self.old ++ group ∷ []) }
-        ensures err { OnErr result (self.new ≡ self.old) }
-    {
-        self.lists.push(group)?;
-        Ok(())
-    }
-}
+/// Numbers of nets.
+pub type NetNumbers = Items<u32>;
 
 /// The nets of a wirelist as they are listed, each as its points.
 #[derive(Debug, Drop)]
@@ -140,6 +95,7 @@ impl NetLists {
     pub fn add(&mut self, i: usize, point: Point) -> Result<(), Memory>
         requires { i < length self.old }
         ensures ok { OnOk result (self.new ≡ slice_set self.old i (slice_index_or self.old i [] ++ point ∷ [])) }
+        ensures err { OnErr result (self.new ≡ self.old) }
     {
         let net = &mut self.lists[i];
         net.push(point)
@@ -171,66 +127,4 @@ pub(crate) fn same_points(a: &[Point], b: &[Point]) -> bool
     ensures { IsTrue result ↔ (a.now ≡ b.now) }
 {
     a == b
-}
-
-/// Numbers of nets.
-#[derive(Debug, Drop)]
-pub struct NetNumbers {
-    numbers: Vec<u32>,
-}
-
-impl Model for NetNumbers {
-    ghost use Rattle.std.specs.Prelude.{ℕ, List};
-
-    ghost Value = { List ℕ };
-
-    ghost view = { λ l. l.numbers.items };
-}
-
-impl NetNumbers {
-    ghost use Rattle.std.specs.Prelude.{◌≡◌, ◌++◌, ◌∷◌, [], length, IfOk, OnOk};
-
-    /// The empty list.
-    pub fn new(alloc: Global) -> Self
-        ensures { result ≡ [] }
-    {
-        NetNumbers {
-            numbers: Vec::new(alloc),
-        }
-    }
-
-    /// A copy of a slice.
-    pub fn from_slice(alloc: Global, numbers: &[u32]) -> Result<Self, Memory>
-        ensures { IfOk result (λ list. list ≡ numbers.now) }
-    {
-        let numbers = Vec::from_slice(alloc, numbers)?;
-        Ok(NetNumbers { numbers })
-    }
-
-    /// Appends a number.
-    pub fn push(&mut self, number: u32) -> Result<(), Memory>
-        ensures { OnOk result (self.new ≡ self.old ++ number ∷ []) }
-    {
-        self.numbers.push(number)?;
-        Ok(())
-    }
-
-    /// The list of a `Vec`, which takes no memory.
-    pub fn from_vec(numbers: Vec<u32>) -> Self
-        ensures { result ≡ numbers.items }
-    {
-        NetNumbers { numbers }
-    }
-
-    pub fn as_slice(&self) -> &[u32]
-        ensures { result.now ≡ self.now }
-    {
-        self.numbers.as_slice()
-    }
-
-    pub fn len(&self) -> usize
-        ensures { result ≡ length self.now }
-    {
-        self.numbers.len()
-    }
 }

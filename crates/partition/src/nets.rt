@@ -1,6 +1,7 @@
 //! The nets of a wirelist.
 
-ghost use Rattle.std.specs.Prelude.{◌≡◌, ℕ, ◌+◌, ◌<◌, ◌≤◌, ◌^◌, List, [], length, map, replicate, None, Some, slice_get, slice_index_or, IfOk, IfErr, OnOk, ◌⊎◌, ◌↔◌, IsTrue};
+ghost use Rattle.std.specs.Prelude.{◌≡◌, ℕ, ◌+◌, ◌<◌, ◌≤◌, ◌^◌, List, [], length, map, replicate, None, Some, slice_get, slice_index_or, IfOk, IfErr};
+ghost use Rattle.std.specs.Prelude.{OnOk, ◌⊎◌, ◌↔◌, IsTrue};
 ghost use Rattle.std.specs.List.Sorted.{IsStrictlyIncreasing};
 ghost use Rattle.partition.specs.Classes.{points_below, has};
 ghost use Rattle.partition.specs.Claims.{nobody, ClaimedTo, ClaimedIn, ClaimedAll, faults_in, faults_to, owned_by, NumberedAlone, IsKeptNets};
@@ -242,7 +243,8 @@ fn number_all(
 ) -> Result<Groups, NetsRefusal>
     requires free { numbers.old ≡ replicate (length numbers.old) nobody }
     requires small { length numbers.old < 2 ^ 16 }
-    ensures kept { IfOk result (λ groups. IsKeptNets (record { points = length numbers.old; named = groups.named; ignored = groups.ignored }) numbers.new groups.alone) }
+    ensures kept { IfOk result (λ groups.
+        IsKeptNets (record { points = length numbers.old; named = groups.named; ignored = groups.ignored }) numbers.new groups.alone) }
     ensures named { IfOk result (λ groups. groups.named ≡ map (ascending_net (length numbers.old)) lists) }
     ensures ignored { IfOk result (λ groups. groups.ignored ≡ ascending_net (length numbers.old) ignored) }
     ensures faultless { OnOk result (first_fault (length numbers.old) lists ignored ≡ None) }

@@ -1,6 +1,7 @@
 //! Partitions of the points.
 
-ghost use Rattle.std.specs.Prelude.{◌≡◌, ◌≢◌, true, false, ℕ, ◌<◌, ◌^◌, ◌↔◌, ◌==◌, IsTrue, List, length, map, min, max, if◌then◌else◌, IfOk, All, vec_len, slice_index, slice_set};
+ghost use Rattle.std.specs.Prelude.{◌≡◌, ◌≢◌, true, false, ℕ, ◌<◌, ◌^◌, ◌↔◌, ◌==◌, IsTrue, List, length, map, min, max, if◌then◌else◌, IfOk, All};
+ghost use Rattle.std.specs.Prelude.{vec_len, slice_index, slice_set};
 ghost use Rattle.partition.specs.Classes.{points_below, class_at, no_class, classes_by, judged_in, Same, merged};
 ghost use Rattle.partition.specs.Partitions.{HasClass, IsOver, IsPartitionValue, JoinsBesides};
 ghost use Rattle.partition.specs.Partitions.{IsLabel};

@@ -4,7 +4,7 @@ use Rattle.std.specs.Prelude.{fold}
 use Rattle.std.proofs.lemmas.Bool.{eq-eqb, eqb-true}
 use Rattle.std.proofs.lemmas.List.Sums.{fold-append}
 use Rattle.partition.proofs.InTurn.{InTurn}
-use Rattle.partition.proofs.Labels.{neq-eqb}
+use Rattle.partition.proofs.classes.Labels.{neq-eqb}
 use Rattle.partition.proofs.Members.{In}
 use Rattle.rig.specs.declared.event.Event.{Event}
 use Rattle.parts_check.specs.PartsRead.{junction_after, last_junction, last_ohms, ohms_after}

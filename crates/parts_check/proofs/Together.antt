@@ -4,10 +4,10 @@ use Rattle.std.specs.Prelude.{All, IfSome, IsSome, unwrap_or}
 use Rattle.std.proofs.lemmas.List.{length-map}
 use Rattle.std.proofs.lemmas.List.Elements.{All-append, All-map, All-weaker}
 use Rattle.partition.specs.NetTable.{judged_points, net_at, programmed_of}
-use Rattle.partition.proofs.ClassLaws.{length-classes_by}
+use Rattle.partition.proofs.classes.ClassLaws.{length-classes_by}
 use Rattle.partition.proofs.InTurn.{All-from_In, InTurn, InTurn-from_AllPairs, InTurn-weaken}
 use Rattle.partition.proofs.Members.{In, In-append_left, In-append_right, In-map}
-use Rattle.partition.proofs.NetLaws.{In-index, judged-below}
+use Rattle.partition.proofs.tables.NetLaws.{In-index, judged-below}
 use Rattle.wirelist.specs.Ranges.{PartFaultsInRange}
 use Rattle.rig.specs.Trail.{IsProbe}
 use Rattle.wirelist.specs.Clusters.{IsJudged, component_links, diode_link, resistor_link}

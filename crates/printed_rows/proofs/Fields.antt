@@ -8,7 +8,7 @@ use Rattle.std.proofs.lemmas.List.Folds.{list_all-append}
 use Rattle.std.proofs.lemmas.Bool.Decides.{nat_tests}
 use Rattle.std.specs.Prelude.{nat_le}
 use Rattle.partition.specs.Names.{IsName, is_name_byte}
-use Rattle.partition.proofs.Labels.{and_left, and_right}
+use Rattle.partition.proofs.classes.Labels.{and_left, and_right}
 
 -- a field of at most 24 letters, digits, dashes and low lines
 pub record IsPlainField (field : List ℕ) : Type 0 where

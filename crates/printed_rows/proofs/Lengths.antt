@@ -7,7 +7,7 @@ use Rattle.std.proofs.lemmas.Grind.{flat_map-append}
 use Rattle.std.proofs.lemmas.List.Elements.{All-tail}
 use Rattle.partition.specs.Names.{IsName}
 use Rattle.partition.specs.NetTable.{NetTable}
-use Rattle.partition.proofs.NetLaws.{judged-below}
+use Rattle.partition.proofs.tables.NetLaws.{judged-below}
 use Rattle.wirelist.specs.Canonical.{canonical, line_of, part_row, points_row, net_row, ignore_row, ignore_rows, resistor_row, diode_row, insulation_row, insulation_rows, withstand_row, withstand_rows, attempts_row}
 use Rattle.wirelist.specs.Clusters.{IsJudged, ResistorsInside, DiodesInside}
 use Rattle.wirelist.specs.Programs.{IsProgram, IsResistor, IsDiode, IsInsulation, IsWithstand}

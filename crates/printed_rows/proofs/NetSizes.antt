@@ -9,10 +9,10 @@ use Rattle.std.proofs.lemmas.Map.Keys.{IsDistinct-head, IsDistinct-tail, IsDisti
 use Rattle.std.proofs.lemmas.Map.Steps.{length-le_from_distinct_below}
 use Rattle.partition.specs.Classes.{has}
 use Rattle.partition.specs.NetTable.{NetTable, IsNetTable, Disjoint, judged_points}
-use Rattle.partition.proofs.ClassLaws.{has-head, has-tail}
-use Rattle.partition.proofs.Labels.{not_true}
+use Rattle.partition.proofs.classes.ClassLaws.{has-head, has-tail}
+use Rattle.partition.proofs.classes.Labels.{not_true}
 use Rattle.partition.proofs.Members.{has-In, In-has}
-use Rattle.partition.proofs.NetLaws.{All-In, Contains-In, judged-below, judged-is}
+use Rattle.partition.proofs.tables.NetLaws.{All-In, Contains-In, judged-below, judged-is}
 use Rattle.printed_rows.proofs.Fields.{all_append}
 
 -- the points of all nets

@@ -5,7 +5,7 @@ use Rattle.std.specs.Fmt.{decimal}
 use Rattle.partition.specs.Names.{IsName}
 use Rattle.partition.specs.NetTable.{NetTable, IsNetTable}
 use Rattle.wirelist.specs.Canonical.{rows_of, part_row, points_row, net_row, ignore_rows, resistor_row, diode_row, insulation_rows, withstand_rows, attempts_row}
-use Rattle.partition.proofs.NetLaws.{judged-below}
+use Rattle.partition.proofs.tables.NetLaws.{judged-below}
 use Rattle.wirelist.specs.Clusters.{IsJudged, ResistorsInside, DiodesInside}
 use Rattle.wirelist.specs.Programs.{IsProgram, IsResistor, IsDiode, IsInsulation, IsWithstand}
 use Rattle.wirelist.specs.declared.program.Program.{Program}

@@ -8,7 +8,7 @@ use Rattle.csv.specs.Writing.{default_writer, field_text, fields_text, is_blank,
 use Rattle.csv.specs.declared.parser.State.TheVariants as st
 use Rattle.csv.proofs.RoundTrip.{read-write-many}
 use Rattle.partition.specs.Names.{is_name_byte}
-use Rattle.partition.proofs.Labels.{and_left, and_right}
+use Rattle.partition.proofs.classes.Labels.{and_left, and_right}
 use Rattle.wirelist.specs.Canonical.{line_of}
 use Rattle.wirelist.proofs.PrintingLemmas.{join_all}
 use Rattle.printed_rows.proofs.Fields.{IsPlainField, IsPlainRow}

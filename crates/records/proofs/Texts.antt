@@ -5,7 +5,7 @@ use Rattle.wirelist.specs.declared.refusal.WireRefusal.{WireRefusal}
 use Rattle.wirelist.specs.declared.refusal.WireRefusal.TheVariants as wire
 use Rattle.wirelist.specs.Canonical.{canonical}
 use Rattle.wirelist.specs.Programs.{IsProgram}
-use Rattle.wirelist_reader.proofs.ReadBackLaw.{read_back, answers_back}
+use Rattle.wirelist_reader.proofs.printed.ReadBackLaw.{read_back, answers_back}
 use Rattle.records.specs.declared.stop.DecodeStop.{DecodeStop}
 use Rattle.records.specs.declared.stop.DecodeStop.TheVariants.{NotARecord, Memory}
 use Rattle.records.specs.RecordRanges.{Decodes}

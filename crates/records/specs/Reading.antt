@@ -1,7 +1,8 @@
 -- Reading values from the front of bytes: the value and the bytes after it, or none where no value is spelled there.
 --     Gives view result read     what a function answers, seen by view, is what is read, unless memory ran out
 --     byte_at, number_at, name_at, counted_at, outcome_at     what is read at the front
-use Rattle.std.specs.Prelude.{◌≡◌, ℕ, zero, suc, ◌==◌, Bool, true, false, List, [], ◌∷◌, length, take, drop, Option, Some, None, Result, Ok, Err, nat_lt, if◌then◌else◌}
+use Rattle.std.specs.Prelude.{◌≡◌, ℕ, zero, suc, ◌==◌, Bool, true, false, List, [], ◌∷◌, length, take, drop, Option, Some, None, Result, Ok, Err}
+use Rattle.std.specs.Prelude.{nat_lt, if◌then◌else◌}
 use Rattle.std.specs.Int.{Width, w16, w64, byte_len, from_be_bytes}
 use Rattle.partition.specs.Names.{is_name}
 use Rattle.difference.specs.declared.wiring.Piece.{Piece}
@@ -83,7 +84,8 @@ unfoldable pub short_at : Reader Short
 short_at = made_at (λ s. record { class = s.0; nets = s.1 }) (both_at (number_at w16) (counted_at (number_at w16)))
 
 unfoldable pub difference_at : Reader Difference
-difference_at = made_at (λ d. record { opens = d.0; shorts = d.1.0; miswires = d.1.1 }) (both_at (counted_at piece_at) (both_at (counted_at short_at) (counted_at piece_at)))
+difference_at = made_at (λ d. record { opens = d.0; shorts = d.1.0; miswires = d.1.1 })
+    (both_at (counted_at piece_at) (both_at (counted_at short_at) (counted_at piece_at)))
 
 -- a fault by its byte of kind and its reading
 unfoldable pub kind_from : ℕ × ℕ → Option PartFaultKind

@@ -4,7 +4,8 @@ ghost use Rattle.std.specs.Prelude.{◌≡◌, ◌++◌, ◌↔◌, IsTrue, OnOk
 ghost use Rattle.records.specs.Orders.{part_faults_before, leak_faults_before};
 ghost use Rattle.records.specs.Reading.{Gives, part_fault_at, kind_from, leak_at, leak_from, leak_fault_at};
 ghost use Rattle.records.specs.RecordBytes.{part_fault_bytes, kind_bytes, leak_bytes, leak_fault_bytes};
-ghost use Rattle.wirelist.specs.Ranges.{PartFaultInRange, LeakFaultInRange, PartFaultBefore, LeakFaultBefore, PartFaultsInRange, LeakFaultsInRange, KindInRange, IsReading};
+ghost use Rattle.wirelist.specs.Ranges.{PartFaultInRange, LeakFaultInRange, PartFaultBefore, LeakFaultBefore, PartFaultsInRange, LeakFaultsInRange};
+ghost use Rattle.wirelist.specs.Ranges.{KindInRange, IsReading};
 
 use crate::DecodeStop;
 use crate::item::{Item, are_ordered};

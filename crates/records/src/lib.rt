@@ -13,7 +13,6 @@ mod body;
 mod faults;
 mod item;
 pub mod laws;
-mod list;
 mod numbers;
 mod outcome;
 mod points;
@@ -22,8 +21,7 @@ mod spelling;
 mod stop;
 mod wiring;
 
-pub use list::RecordList;
-pub use record::{Body, Staff, StationRecord};
+pub use record::{Body, RecordList, Staff, StationRecord};
 pub use spelling::{decode, encode};
 pub use stop::DecodeStop;
 

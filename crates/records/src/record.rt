@@ -1,5 +1,6 @@
 //! What the station keeps of each command that it accepted.
 
+use base::Items;
 use partition::Name;
 use wirelist::{Outcome, Program};
 
@@ -43,3 +44,6 @@ pub struct StationRecord {
     pub moment: u64,
     pub body: Body,
 }
+
+/// Records in order. The station numbers them from 1; a place in the list counts from 0.
+pub type RecordList = Items<StationRecord>;

@@ -4,10 +4,10 @@ use Rattle.std.specs.Prelude.{All, IfSome, IsSome, IsSomeAnd, IsTrue}
 use Rattle.std.proofs.lemmas.List.Elements.{All-contains}
 use Rattle.partition.specs.Classes.{AllBelow, JoinsBelow, class_at, judged_in, points_below}
 use Rattle.partition.specs.Partitions.{HasClass, IsClassing, IsOver, IsPartitionOfAll, Meets}
-use Rattle.partition.proofs.JoinedPartition.{joined_by-IsPartition}
-use Rattle.partition.proofs.ClassLaws.{classes_by-IsPartition, classes_by-same, same-classes_by, length-classes_by}
-use Rattle.partition.proofs.JudgedPartition.{all-class, all-judged_in, class-inside, class-judged, class-js, js-class, judged-class, judged_in-below, judged_in-ascends, partition-classing}
-use Rattle.partition.proofs.WalkLaws.{joined_by-walk, walk-joined_by}
+use Rattle.partition.proofs.classes.JoinedPartition.{joined_by-IsPartition}
+use Rattle.partition.proofs.classes.ClassLaws.{classes_by-IsPartition, classes_by-same, same-classes_by, length-classes_by}
+use Rattle.partition.proofs.classes.JudgedPartition.{all-class, all-judged_in, class-inside, class-judged, class-js, js-class, judged-class, judged_in-below, judged_in-ascends, partition-classing}
+use Rattle.partition.proofs.classes.WalkLaws.{joined_by-walk, walk-joined_by}
 use Rattle.rig.specs.declared.event.Event.{Event}
 use Rattle.rig.specs.declared.event.Event.TheVariants.{Reading, Ohms, Junction, Door, Route, Raise, Leak, Zero, Residual, Tick}
 use Rattle.rig.specs.declared.unit.Row.{Row}

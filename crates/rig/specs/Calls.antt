@@ -1,5 +1,6 @@
 -- What the calls of a rig ask, answer and change.
-use Rattle.std.specs.Prelude.{◌≡◌, ◌↔◌, ◌+◌, ◌-◌, ◌%◌, ◌^◌, ◌<◌, ◌≤◌, min, ℕ, Bool, true, false, List, length, Option, All, Contains, Result, Err, IsTrue, IfSome, IsSomeAnd, IfOk, OnOk, OnErr, option_map}
+use Rattle.std.specs.Prelude.{◌≡◌, ◌↔◌, ◌+◌, ◌-◌, ◌%◌, ◌^◌, ◌<◌, ◌≤◌, min, ℕ, Bool, true, false, List, length, Option, All, Contains, Result, Err}
+use Rattle.std.specs.Prelude.{IsTrue, IfSome, IsSomeAnd, IfOk, OnOk, OnErr, option_map}
 use Rattle.std.specs.Result.{result_err}
 use Rattle.std.specs.List.Sorted.{IsStrictlyIncreasing}
 use Rattle.partition.specs.Partitions.{Meets}

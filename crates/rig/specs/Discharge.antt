@@ -25,7 +25,8 @@ abbrev pub waited : List ℕ → List Event
 waited [] = []
 waited (v ∷ vs) = Residual v ∷ Tick ∷ waited vs
 
--- what was read last, after these waits: at most 30 volts; more of them, after 100 ticks; or a refusal before a reading, or after one that fewer than 100 ticks went before
+-- what was read last, after these waits: at most 30 volts; more of them, after 100 ticks; or a refusal before a reading, or after one that
+-- fewer than 100 ticks went before
 abbrev pub WaitEnds : Result (Option ℕ) RigStop → List ℕ → List Event → Type 0
 WaitEnds (Ok None) waits last = (v : ℕ) × (v ≤ discharged_volts) × (last ≡ Residual v ∷ [])
 WaitEnds (Ok (Some v)) waits last = (discharged_volts < v) × (length waits ≡ most_waits) × (last ≡ Residual v ∷ [])

@@ -2,7 +2,8 @@
 --     happened event state        the rig after the event
 --     happened_all events state   after all of them, one after the other
 --     Happens old new events stop    these events happened and nothing else, up to a refusal, if there was one
-use Rattle.std.specs.Prelude.{◌≡◌, ℕ, ◌+◌, ◌-◌, ◌^◌, ◌<◌, ◌≤◌, min, Bool, true, false, nat_lt, List, [], ◌∷◌, ◌++◌, length, All, Option, Some, option_map, IsSome, IfSome, if◌then◌else◌, ⊤}
+use Rattle.std.specs.Prelude.{◌≡◌, ℕ, ◌+◌, ◌-◌, ◌^◌, ◌<◌, ◌≤◌, min, Bool, true, false, nat_lt, List, [], ◌∷◌, ◌++◌, length, All, Option, Some}
+use Rattle.std.specs.Prelude.{option_map, IsSome, IfSome, if◌then◌else◌, ⊤}
 use Rattle.base.specs.Causes.{HasCause}
 use Rattle.rig.specs.declared.event.Event.{Event}
 use Rattle.rig.specs.declared.event.Event.TheVariants.{Reading, Ohms, Junction, Door, Route, Raise, Leak, Zero, Residual, Tick}

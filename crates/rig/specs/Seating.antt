@@ -1,5 +1,6 @@
 -- A unit is seated.
-use Rattle.std.specs.Prelude.{◌≡◌, ◌↔◌, ◌+◌, ◌-◌, ◌^◌, min, ℕ, true, false, List, [], ◌∷◌, ◌++◌, Option, Some, None, All, Result, Ok, Err, IsTrue, IfSome, OnOk, OnErr, option_map, slice_index_or, drop, ⊤}
+use Rattle.std.specs.Prelude.{◌≡◌, ◌↔◌, ◌+◌, ◌-◌, ◌^◌, min, ℕ, true, false, List, [], ◌∷◌, ◌++◌, Option, Some, None, All, Result, Ok, Err, IsTrue}
+use Rattle.std.specs.Prelude.{IfSome, OnOk, OnErr, option_map, slice_index_or, drop, ⊤}
 use Rattle.std.specs.Result.{result_err}
 use Rattle.std.specs.List.{position_or_len}
 use Rattle.rig.specs.declared.event.Event.{Event}

@@ -6,7 +6,8 @@
 --     arcs rows n a b v              two groups arc at v volts
 --     leak_of rows n a b v           the reading of a leak at v volts
 --     charge_of rows                 the volts and ticks of the unit's charge
-use Rattle.std.specs.Prelude.{ℕ, ◌/◌, ◌^◌, ◌==◌, ◌&&◌, ◌||◌, Bool, false, nat_le, nat_lt, List, Option, Some, None, find, sum_by, if◌then◌else◌, filter_map, [], ◌∷◌}
+use Rattle.std.specs.Prelude.{ℕ, ◌/◌, ◌^◌, ◌==◌, ◌&&◌, ◌||◌, Bool, false, nat_le, nat_lt, List, Option, Some, None, find, sum_by, if◌then◌else◌}
+use Rattle.std.specs.Prelude.{filter_map, [], ◌∷◌}
 use Rattle.std.specs.List.{list_any}
 use Rattle.partition.specs.Classes.{class_at}
 use Rattle.rig.specs.Joins.{joined_classes, most_join}

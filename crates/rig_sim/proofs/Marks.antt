@@ -7,7 +7,7 @@ use Rattle.std.proofs.lemmas.List.Elements.{All-contains}
 use Rattle.std.proofs.lemmas.Bool.Decides.{eqb_tells}
 use Rattle.partition.specs.Classes.{class_at, JoinsBelow}
 use Rattle.partition.specs.Partitions.{IsPartitionOfAll}
-use Rattle.partition.proofs.WalkLaws.{joined_by-walk, walk-joined_by}
+use Rattle.partition.proofs.classes.WalkLaws.{joined_by-walk, walk-joined_by}
 use Rattle.rig.specs.declared.unit.Row.{Row}
 use Rattle.rig.specs.Calls.{AreGroups, AreJoined}
 use Rattle.rig.specs.Joins.{IsRowBelow, joins_of, joined_classes}

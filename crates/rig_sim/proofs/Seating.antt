@@ -3,7 +3,7 @@ use Rattle.std.proofs.Common.{◌≡◌, ℕ, zero, suc, ◌+◌, ◌-◌, ◌^�
 use Rattle.std.specs.Prelude.{IfSome, IsErrAnd, Result, slice_get, slice_index_or, option_map, drop}
 use Rattle.std.specs.List.{position_or_len}
 use Rattle.partition.specs.Partitions.{IsPartitionOfAll}
-use Rattle.partition.proofs.JoinedPartition.{joined_by-own}
+use Rattle.partition.proofs.classes.JoinedPartition.{joined_by-own}
 use Rattle.rig.specs.declared.rig.RigStop.{RigStop}
 use Rattle.rig.specs.declared.rig.RigStop.TheVariants.{Memory}
 use Rattle.rig.specs.declared.rig.SeatAnswer.{SeatAnswer}

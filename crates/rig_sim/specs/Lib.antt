@@ -1,8 +1,9 @@
 pub mod Counters
-pub mod Meters
-pub mod Logs
 pub mod Fixture
 pub mod SimRig
-pub mod SimView
 pub mod ListRig
+-- what only the bodies' own contracts and invariants cite
+pub mod Meters
+pub mod Logs
+pub mod SimView
 pub mod ListView

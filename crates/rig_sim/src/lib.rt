@@ -22,15 +22,13 @@
 
 mod counter;
 mod fixture;
-mod flags;
 mod list_rig;
 mod log;
 mod meter;
 mod sim_rig;
 
-pub use flags::Flags;
 pub use harness::HarnessRefusal;
-pub use list_rig::ListRig;
+pub use list_rig::{Flags, ListRig};
 pub use sim_rig::SimRig;
 
 #[cfg(test)]

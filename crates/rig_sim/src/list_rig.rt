@@ -12,13 +12,15 @@ ghost use Rattle.rig.specs.Trail.{IsReading};
 ghost use Rattle.rig_sim.specs.ListRig.{after_event, after_failure, new_list, next_answer};
 
 use crate::fixture::Route;
-use crate::flags::Flags;
 use crate::log::Log;
-use base::Memory;
+use base::{Items, Memory};
 use partition::{Point, PointList};
 use rig::{Event, EventList, Leak, Permit, Rig, RigStop, SeatAnswer, TallyList};
 use std::alloc::Global;
 use std::marker::Model;
+
+/// A list of truth values.
+pub type Flags = Items<bool>;
 
 /// A rig whose group readings are those of a list, one after the other, anew after the last. It tells the trail and the tallies,
 /// but not what is in the fixture: every unit is there, no component, leak or charge is found, and the interlock is closed.

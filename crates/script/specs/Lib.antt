@@ -7,10 +7,11 @@ pub mod Turns
 pub mod Ends
 pub mod Growth
 pub mod Headline
-pub mod Asking
 pub mod RigLines
 pub mod Ran
 pub mod Causes
 pub mod Keeping
 pub mod Opened
 pub mod Shown
+-- what only the bodies' own contracts and invariants cite
+pub mod Asking

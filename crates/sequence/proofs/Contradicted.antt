@@ -8,7 +8,7 @@ use Rattle.partition.specs.Classes.{class_at, has}
 use Rattle.partition.specs.Heads.{heads}
 use Rattle.partition.specs.NetTable.{all_nets, head_of, judged_points, programmed_of}
 use Rattle.partition.specs.Partitions.{HasClass, Meets}
-use Rattle.partition.proofs.HeadLemmas.{heads_below-are, heads_below-increasing}
+use Rattle.partition.proofs.classes.HeadLemmas.{heads_below-are, heads_below-increasing}
 use Rattle.rig.specs.declared.event.Event.{Event}
 use Rattle.rig.specs.declared.event.Event.TheVariants.{Reading}
 use Rattle.rig.specs.RigState.{RigState}

@@ -39,10 +39,10 @@ use Rattle.sequence.specs.Whole.{EndsWith}
 use Rattle.sequence.specs.Wired.{IsAsProgrammed, IsDifferent, ReadsWiring}
 use Rattle.sequence.proofs.Going.{rows-both, rows-each}
 use Rattle.sequence.proofs.Judged.{few-points, judged-over_in, judged-programmed_in}
-use Rattle.sequence.proofs.Passing.{Passed, counted-tally, passed-judged, passed-keeps, passed-not_charged, passed-unit, read-not_charged, read-order, read-volts, seat-judged, spent-now}
+use Rattle.sequence.proofs.stages.Passing.{Passed, counted-tally, passed-judged, passed-keeps, passed-not_charged, passed-unit, read-not_charged, read-order, read-volts, seat-judged, spent-now}
 use Rattle.sequence.proofs.Tallying.{adds-none, grows-none}
 use Rattle.sequence.proofs.Telling.{Sees, rows-after, sees, told-each}
-use Rattle.sequence.proofs.Wirings.{all-over, still-judged}
+use Rattle.sequence.proofs.stages.Wirings.{all-over, still-judged}
 
 -- ---- differences
 

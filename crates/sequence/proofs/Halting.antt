@@ -34,9 +34,9 @@ use Rattle.sequence.specs.Whole.{EndsSeated, StopsProven}
 use Rattle.sequence.specs.Wired.{IsAsProgrammed, ReadsWiring, StopsReading}
 use Rattle.sequence.proofs.Finding.{no-difference-of, tested}
 use Rattle.sequence.proofs.Going.{rows-both}
-use Rattle.sequence.proofs.Passing.{Passed, mapped-told, passed-begun, passed-keeps, passed-not_charged, passed-unit, read-not_charged, read-order, read-volts}
+use Rattle.sequence.proofs.stages.Passing.{Passed, mapped-told, passed-begun, passed-keeps, passed-not_charged, passed-unit, read-not_charged, read-order, read-volts}
 use Rattle.sequence.proofs.Telling.{Sees, rows-after, sees, tells-none, told-always, told-each}
-use Rattle.sequence.proofs.Voltages.{later-trail}
+use Rattle.sequence.proofs.stages.Voltages.{later-trail}
 
 rose-since : (a b c : ℕ) → a ≤ b → Rose b c → Rose a c
 rose-since a b c le rose = omega arith

@@ -6,10 +6,10 @@ use Rattle.partition.specs.Classes.{judged_in}
 use Rattle.partition.specs.NetTable.{judged_points, programmed_of}
 use Rattle.partition.specs.Partitions.{IsClassing, IsOver}
 use Rattle.partition.proofs.Ascending.{same_ascending}
-use Rattle.partition.proofs.JudgedPartition.{class-js, class-judged, js-class, judged-class, judged_in-ascends}
-use Rattle.partition.proofs.NetClasses.{programmed_valid}
-use Rattle.partition.proofs.NetLaws.{judged-ascends, judged-below}
-use Rattle.partition.proofs.Programmed.{programmed-IsPartition}
+use Rattle.partition.proofs.classes.JudgedPartition.{class-js, class-judged, js-class, judged-class, judged_in-ascends}
+use Rattle.partition.proofs.tables.NetClasses.{programmed_valid}
+use Rattle.partition.proofs.tables.NetLaws.{judged-ascends, judged-below}
+use Rattle.partition.proofs.classes.Programmed.{programmed-IsPartition}
 use Rattle.rig.specs.declared.event.Event.{Event}
 use Rattle.rig.specs.RigState.{RigState}
 use Rattle.rig.specs.Trail.{EndsWith, Extends}

@@ -1,12 +1,8 @@
 pub mod Judged
 pub mod Contradicted
-pub mod Wirings
 pub mod Tallying
 pub mod Going
-pub mod Broken
-pub mod Voltages
-pub mod Parting
-pub mod Passing
 pub mod Telling
 pub mod Finding
 pub mod Halting
+pub mod stages

@@ -7,7 +7,7 @@ use Rattle.std.proofs.lemmas.List.Folds.{find-append}
 use Rattle.std.proofs.lemmas.List.{map-append}
 use Rattle.std.proofs.Math.Nat.{eq-or-lt_of_le}
 use Rattle.partition.specs.Classes.{points_below}
-use Rattle.partition.proofs.HeadLemmas.{points_below-suc}
+use Rattle.partition.proofs.classes.HeadLemmas.{points_below-suc}
 use Rattle.rig.specs.declared.unit.Row.{Row}
 use Rattle.wirelist.specs.Clusters.{cluster_count}
 use Rattle.wirelist.specs.declared.program.Program.{Program}

@@ -3,10 +3,10 @@ use Rattle.std.proofs.Common.{ℕ, ◌<◌, map, subst, All}
 use Rattle.std.proofs.lemmas.List.Elements.{All-append, All-map}
 use Rattle.partition.specs.Classes.{JoinsBelow}
 use Rattle.partition.specs.NetTable.{IsNetTable, judged_points, net_at, net_count}
-use Rattle.partition.proofs.ClassLaws.{classes_by-IsPartition, classes_by-same, same-classes_by}
-use Rattle.partition.proofs.KeptLemmas.{net_at-below}
-use Rattle.partition.proofs.NetLaws.{net_facts}
-use Rattle.partition.proofs.WalkLaws.{joined_by-walk, walk-joined_by}
+use Rattle.partition.proofs.classes.ClassLaws.{classes_by-IsPartition, classes_by-same, same-classes_by}
+use Rattle.partition.proofs.tables.KeptLemmas.{net_at-below}
+use Rattle.partition.proofs.tables.NetLaws.{net_facts}
+use Rattle.partition.proofs.classes.WalkLaws.{joined_by-walk, walk-joined_by}
 use Rattle.wirelist.specs.declared.program.Program.{Program}
 use Rattle.wirelist.specs.Clusters.{ComponentsInside, component_links, cluster_first_at, resistor_link, diode_link}
 use Rattle.wirelist.specs.Laws.{ClusterLaw}

@@ -8,13 +8,13 @@ use Rattle.partition.specs.Classes.{points_below, class_at, classes_by, merged, 
 use Rattle.partition.specs.Partitions.{IsLabel}
 use Rattle.partition.specs.NetTable.{NetTable, IsNetTable, judged_points, net_at, net_count}
 use Rattle.partition.specs.Heads.{heads, heads_below}
-use Rattle.partition.proofs.ClassLaws.{classes_by-agree}
-use Rattle.partition.proofs.HeadLemmas.{singles_valid}
-use Rattle.partition.proofs.JudgedPartition.{merged-has_class}
-use Rattle.partition.proofs.KeptLemmas.{filter-agree, In-points_below, net_at-below}
-use Rattle.partition.proofs.MergeLemmas.{merged-valid}
-use Rattle.partition.proofs.NetLaws.{judged-below, judged-is}
-use Rattle.partition.proofs.WalkLaws.{length-merged}
+use Rattle.partition.proofs.classes.ClassLaws.{classes_by-agree}
+use Rattle.partition.proofs.classes.HeadLemmas.{singles_valid}
+use Rattle.partition.proofs.classes.JudgedPartition.{merged-has_class}
+use Rattle.partition.proofs.tables.KeptLemmas.{filter-agree, In-points_below, net_at-below}
+use Rattle.partition.proofs.classes.MergeLemmas.{merged-valid}
+use Rattle.partition.proofs.tables.NetLaws.{judged-below, judged-is}
+use Rattle.partition.proofs.classes.WalkLaws.{length-merged}
 use Rattle.wirelist.specs.declared.program.Program.{Program}
 use Rattle.wirelist.specs.Clusters.{net_clusters, resistor_link, diode_link, cluster_classes, cluster_count}
 use Rattle.wirelist.specs.Linking.{AreOfNets, linked_by, first_net_of, first_nets_of}

@@ -63,3 +63,15 @@ pub lines_in_order : {R : Type 0} (line : R → List ℕ) (first second last : R
     → (((((((line first ++ line second) ++ flat_map line a) ++ flat_map line b) ++ flat_map line c) ++ flat_map line d) ++ flat_map line e) ++ flat_map line f) ++ line last
     ≡ flat_map line (first ∷ second ∷ (a ++ (b ++ (c ++ (d ++ (e ++ (f ++ (last ∷ []))))))))
 lines_in_order line first second last a b c d e f = simp (append_assoc, flat_map-append, append-nil)
+
+-- one point more, after a comma
+pub points_more : (text so_far out field ps : List ℕ) (i p : ℕ) → i < length ps → get_or ps i p ≡ p
+    → so_far ≡ text ++ flat_map (λ x. 44 ∷ decimal x) (take i ps) → out ≡ so_far ++ field → field ≡ 44 ∷ decimal p
+    → out ≡ text ++ flat_map (λ x. 44 ∷ decimal x) (take (i + 1) ps)
+points_more text so_far out field ps i p inside at is next spelled =
+    let print : ℕ → List ℕ = λ x. 44 ∷ decimal x in
+    next ∙ ap (λ l. so_far ++ l) spelled ∙ ap (λ l. l ++ print p) is ∙ append_assoc text (flat_map print (take i ps)) (print p)
+    ∙ ap (λ l. text ++ l) (sym (
+    ap (λ part. flat_map print part) (take_more ps i p inside ∙ ap (λ y. take i ps ++ y ∷ []) at)
+    ∙ flat_map-append print (take i ps) (p ∷ [])
+    ∙ ap (λ rest. flat_map print (take i ps) ++ rest) (append-nil (print p))))

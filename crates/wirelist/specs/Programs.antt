@@ -4,7 +4,8 @@ use Rattle.std.specs.Prelude.{◌≡◌, ◌≢◌, ℕ, ◌+◌, ◌≤◌, ◌
 use Rattle.partition.specs.Names.{IsName}
 use Rattle.partition.specs.NetTable.{IsNetTable}
 use Rattle.wirelist.specs.Clusters.{ComponentsInside, component_links, cluster_count}
-use Rattle.wirelist.specs.Numbers.{IsIn, milliohms, millivolts, revisions, insulation_volts, insulation_ticks, megohms, withstand_volts, withstand_ticks, nanoamps, attempts}
+use Rattle.wirelist.specs.Numbers.{IsIn, milliohms, millivolts, revisions, insulation_volts, insulation_ticks, megohms, withstand_volts}
+use Rattle.wirelist.specs.Numbers.{withstand_ticks, nanoamps, attempts}
 use Rattle.wirelist.specs.Ranges.{most_points, most_parts, most_clusters}
 use Rattle.wirelist.specs.declared.program.Program.{Program}
 use Rattle.wirelist.specs.declared.program.Insulation.{Insulation}

@@ -1,5 +1,6 @@
 //! The program of a harness: what its units are tested against.
 
+use crate::parts::{same_diodes, same_names, same_resistors};
 use crate::{Diodes, Names, Resistors};
 use base::Memory;
 use partition::{Name, Nets};
@@ -75,14 +76,15 @@ impl Program {
         other.part == self.part
             && other.revision == self.revision
             && self.nets.equal(&other.nets)
-            && self.names.equal(&other.names)
+            && same_names(other.names.as_slice(), self.names.as_slice())
     }
 
     /// Whether the components are equal.
     fn same_parts(&self, other: &Program) -> bool
         ensures { IsTrue result ↔ SameParts other.now self.now }
     {
-        self.resistors.equal(&other.resistors) && self.diodes.equal(&other.diodes)
+        same_resistors(other.resistors.as_slice(), self.resistors.as_slice())
+            && same_diodes(other.diodes.as_slice(), self.diodes.as_slice())
     }
 
     /// Whether the tests at high voltage and the number of attempts are equal.

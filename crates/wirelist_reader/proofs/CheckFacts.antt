@@ -5,7 +5,7 @@ use Rattle.std.specs.List.{flat_map, list_all, list_any}
 use Rattle.std.proofs.lemmas.Bool.{ne_eqb}
 use Rattle.lines.specs.Numbers.{IsNumberWord}
 use Rattle.partition.specs.Classes.{points_below}
-use Rattle.partition.proofs.ClaimLemmas.{first_below}
+use Rattle.partition.proofs.tables.ClaimLemmas.{first_below}
 use Rattle.wirelist.specs.declared.refusal.WireRefusal.{WireRefusal}
 use Rattle.wirelist.specs.declared.refusal.WireRefusal.TheVariants as wire
 use Rattle.wirelist_reader.specs.Kinds.{bad_fields, kind_of}

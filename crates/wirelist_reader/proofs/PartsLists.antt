@@ -5,8 +5,8 @@ use Rattle.std.specs.List.{flat_map}
 use Rattle.std.proofs.lemmas.List.{append-nil, get_or_default, map-append}
 use Rattle.partition.specs.Classes.{points_below}
 use Rattle.partition.specs.NetTable.{NetTable}
-use Rattle.partition.proofs.ClaimLemmas.{first_below, none_more}
-use Rattle.partition.proofs.HeadLemmas.{points_below-suc}
+use Rattle.partition.proofs.tables.ClaimLemmas.{first_below, none_more}
+use Rattle.partition.proofs.classes.HeadLemmas.{points_below-suc}
 use Rattle.wirelist.specs.declared.refusal.WireRefusal.{WireRefusal}
 use Rattle.std.proofs.lemmas.List.Elements.{All-more, filter-append}
 use Rattle.wirelist_reader.specs.Kinds.{is_number}
@@ -16,7 +16,7 @@ use Rattle.wirelist_reader.specs.Rows.{ends_in, field_at, is_component, is_kind,
 use Rattle.wirelist_reader.specs.declared.kind.Kind.{Kind}
 use Rattle.wirelist_reader.specs.declared.kind.Kind.TheVariants.{Resistor, Diode}
 use Rattle.wirelist_reader.specs.declared.parts.PartEnds.{PartEnds}
-use Rattle.wirelist_reader.proofs.BuildFacts.{resistor_point, diode_point}
+use Rattle.wirelist_reader.proofs.faultless.BuildFacts.{resistor_point, diode_point}
 
 -- either side of a disjunction
 or_cases : (a b : Bool) → (a || b) ≡ true → (a ≡ true) ⊎ (b ≡ true)

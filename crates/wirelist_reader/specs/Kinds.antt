@@ -5,12 +5,14 @@
 --     number field          the number that a field is
 --     fits shape field      whether a field is what it may be
 --     bad_fields kind row   the numbers of the fields that are missing, surplus, or not what they may be
-use Rattle.std.specs.Prelude.{ℕ, ◌-◌, ◌%◌, Bool, true, false, ◌&&◌, ◌==◌, not, nat_le, bytes_eq, List, [], ◌∷◌, Option, None, Some, length, filter, find, codes, slice_get, slice_index_or}
+use Rattle.std.specs.Prelude.{ℕ, ◌-◌, ◌%◌, Bool, true, false, ◌&&◌, ◌==◌, not, nat_le, bytes_eq, List, [], ◌∷◌, Option, None, Some, length, filter}
+use Rattle.std.specs.Prelude.{find, codes, slice_get, slice_index_or}
 use Rattle.std.specs.List.{range_with_len}
 use Rattle.std.specs.Fmt.{decimal}
 use Rattle.std.specs.Str.Parse.{digits_value}
 use Rattle.partition.specs.Names.{is_name}
-use Rattle.wirelist.specs.Numbers.{points, point_words, revisions, milliohms, millivolts, insulation_volts, insulation_ticks, megohms, withstand_volts, withstand_ticks, nanoamps, attempts}
+use Rattle.wirelist.specs.Numbers.{points, point_words, revisions, milliohms, millivolts, insulation_volts, insulation_ticks, megohms}
+use Rattle.wirelist.specs.Numbers.{withstand_volts, withstand_ticks, nanoamps, attempts}
 use Rattle.wirelist_reader.specs.declared.kind.Kind.{Kind}
 use Rattle.wirelist_reader.specs.declared.kind.Kind.TheVariants.{Part, Points, Net, Ignore, Resistor, Diode, Insulation, Withstand, Attempts}
 use Rattle.wirelist_reader.specs.declared.kind.Shape.{Shape}

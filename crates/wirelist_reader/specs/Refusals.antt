@@ -1,7 +1,8 @@
 -- Why a wirelist is refused: all of its faults, in the order in which they are told.
 --     row_faults rows i      the faults of record i, below those before it
 --     refusals bytes         the faults of a file; it is refused for the first of them
-use Rattle.std.specs.Prelude.{is_some, ◌≡◌, ◌⊎◌, Result, Ok, Err, ℕ, ◌+◌, Bool, true, false, ◌&&◌, ◌||◌, ◌==◌, not, min, nat_lt, nat_le, bytes_eq, List, [], ◌∷◌, ◌++◌, Option, None, Some, length, take, filter, map, slice_get, slice_index_or, if◌then◌else◌}
+use Rattle.std.specs.Prelude.{is_some, ◌≡◌, ◌⊎◌, Result, Ok, Err, ℕ, ◌+◌, Bool, true, false, ◌&&◌, ◌||◌, ◌==◌, not, min, nat_lt, nat_le, bytes_eq}
+use Rattle.std.specs.Prelude.{List, [], ◌∷◌, ◌++◌, Option, None, Some, length, take, filter, map, slice_get, slice_index_or, if◌then◌else◌}
 use Rattle.std.specs.List.{flat_map, list_any, list_all}
 use Rattle.wirelist_rows.specs.Filled.{rows_in}
 use Rattle.partition.specs.Classes.{points_below, has}
@@ -14,7 +15,8 @@ use Rattle.wirelist.specs.declared.program.Program.{Program}
 use Rattle.wirelist.specs.declared.refusal.WireRefusal.{WireRefusal}
 use Rattle.wirelist.specs.declared.refusal.WireRefusal.TheVariants as wire
 use Rattle.wirelist_reader.specs.Kinds.{kind_of, number, is_number, bad_fields}
-use Rattle.wirelist_reader.specs.Rows.{field_at, is_kind, is_named, is_component, row_at, number_at, points_in, listed_nets, listed_ignored, ends_of, program_of}
+use Rattle.wirelist_reader.specs.Rows.{field_at, is_kind, is_named, is_component, row_at, number_at, points_in, listed_nets, listed_ignored, ends_of}
+use Rattle.wirelist_reader.specs.Rows.{program_of}
 use Rattle.wirelist_reader.specs.declared.parts.PartEnds.{PartEnds}
 use Rattle.wirelist_reader.specs.declared.kind.Kind.{Kind}
 use Rattle.wirelist_reader.specs.declared.kind.Kind.TheVariants.{Part, Points, Net, Ignore, Resistor, Diode, Insulation, Withstand, Attempts}

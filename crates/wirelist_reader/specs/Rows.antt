@@ -1,7 +1,8 @@
 -- The rows of a wirelist, and the program that they give.
 --     rows_of_kind k rows  the rows of one kind, in order
 --     program_of rows      what the rows say
-use Rattle.std.specs.Prelude.{ℕ, ◌+◌, Bool, ◌||◌, bytes_eq, List, [], ◌++◌, Option, None, Some, length, drop, filter, map, option_map, slice_get, slice_index_or}
+use Rattle.std.specs.Prelude.{ℕ, ◌+◌, Bool, ◌||◌, bytes_eq, List, [], ◌++◌, Option, None, Some, length, drop, filter, map, option_map, slice_get}
+use Rattle.std.specs.Prelude.{slice_index_or}
 use Rattle.partition.specs.Classes.{points_below}
 use Rattle.partition.specs.NetFaults.{table_of}
 use Rattle.wirelist.specs.declared.program.Program.{Program}

@@ -45,7 +45,8 @@ impl Seen {
     pub(crate) fn add(&mut self, alloc: Global, row: &Row, number: u32) -> Result<(), WireRefusal>
         requires fit { IsFit row.now }
         requires few { self.old.components < 2 ^ 32 }
-        ensures finds { (before : List (List (List ℕ))) → IsSeen before self.old.names self.old.components → FindsOrMemory (late_faults before row.now number) result }
+        ensures finds { (before : List (List (List ℕ))) → IsSeen before self.old.names self.old.components
+            → FindsOrMemory (late_faults before row.now number) result }
         ensures seen { (before : List (List (List ℕ))) → IsSeen before self.old.names self.old.components →
             OnOk result (IsSeen (before ++ row.now ∷ []) self.new.names self.new.components) }
     {

@@ -1,5 +1,5 @@
-use Rattle.applications.proofs.Together.{IfErr-map, IfOk-map}
-use Rattle.applications.proofs.Turns.{endure-off, endure-volts, endures, rise-endures}
+use Rattle.applications.proofs.one_application.Together.{IfErr-map, IfOk-map}
+use Rattle.applications.proofs.one_application.Turns.{endure-off, endure-volts, endures, rise-endures}
 use Rattle.applications.proofs.enduring.endure.Goals as goal
 
 pub returns-in-Some-clause-ok : goal.returns-in-Some-clause-ok

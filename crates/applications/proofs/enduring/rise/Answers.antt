@@ -1,6 +1,6 @@
 use Rattle.std.proofs.Common.{◌∙◌, arith, refl, sym}
-use Rattle.applications.proofs.Climbing.{passed_on, stopped}
-use Rattle.applications.proofs.Turns.{Risen-more, Risen-none, Risen-volts, raised-volts, rise-breaks, rise-no_leak, rise-no_step, rise-no_tick}
+use Rattle.applications.proofs.one_application.Climbing.{passed_on, stopped}
+use Rattle.applications.proofs.one_application.Turns.{Risen-more, Risen-none, Risen-volts, raised-volts, rise-breaks, rise-no_leak, rise-no_step, rise-no_tick}
 use Rattle.applications.proofs.enduring.rise.Goals as goal
 
 pub loop-i-init : goal.loop-i-init

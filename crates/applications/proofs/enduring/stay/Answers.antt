@@ -1,6 +1,6 @@
 use Rattle.std.proofs.Common.{◌∙◌, arith, refl, sym}
-use Rattle.applications.proofs.Climbing.{stopped}
-use Rattle.applications.proofs.Turns.{Stayed-more, Stayed-none, closed-volts, stay-breaks, stay-no_door, stay-no_leak, stay-no_tick, stay-open}
+use Rattle.applications.proofs.one_application.Climbing.{stopped}
+use Rattle.applications.proofs.one_application.Turns.{Stayed-more, Stayed-none, closed-volts, stay-breaks, stay-no_door, stay-no_leak, stay-no_tick, stay-open}
 use Rattle.applications.proofs.enduring.stay.Goals as goal
 
 pub loop-i-init : goal.loop-i-init

@@ -1,5 +1,5 @@
 use Rattle.std.proofs.Common.{◌∙◌, arith}
-use Rattle.applications.proofs.Climbing.{Climbing-more, Climbing-volts, climb-broken, climb-no_tick, passed_on, stopped}
+use Rattle.applications.proofs.one_application.Climbing.{Climbing-more, Climbing-volts, climb-broken, climb-no_tick, passed_on, stopped}
 use Rattle.applications.proofs.holding.climb.Goals as goal
 
 pub step-requires : goal.step-requires

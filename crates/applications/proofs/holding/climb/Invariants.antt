@@ -1,5 +1,5 @@
 use Rattle.std.proofs.Common.{◌≡◌}
-use Rattle.applications.proofs.Climbing.{Climbing}
+use Rattle.applications.proofs.one_application.Climbing.{Climbing}
 use Rattle.applications.proofs.holding.climb.Given as goal
 
 abbrev pub invariant-loop-i : goal.invariant-loop-i

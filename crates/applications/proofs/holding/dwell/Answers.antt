@@ -1,5 +1,5 @@
 use Rattle.std.proofs.Common.{◌∙◌}
-use Rattle.applications.proofs.Climbing.{Dwelling-more, dwell-no_door, dwell-no_tick, dwell-open, stopped}
+use Rattle.applications.proofs.one_application.Climbing.{Dwelling-more, dwell-no_door, dwell-no_tick, dwell-open, stopped}
 use Rattle.applications.proofs.holding.dwell.Goals as goal
 
 pub returns-in_err-door-clause-err : goal.returns-in_err-door-clause-err

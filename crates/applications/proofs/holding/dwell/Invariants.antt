@@ -1,5 +1,5 @@
 use Rattle.std.proofs.Common.{◌≡◌}
-use Rattle.applications.proofs.Climbing.{Dwelling}
+use Rattle.applications.proofs.one_application.Climbing.{Dwelling}
 use Rattle.applications.proofs.holding.dwell.Given as goal
 
 abbrev pub invariant-loop-i : goal.invariant-loop-i

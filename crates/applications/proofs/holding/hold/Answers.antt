@@ -1,6 +1,6 @@
 use Rattle.std.proofs.Common.{arith}
-use Rattle.applications.proofs.Climbing.{passed_on, stopped}
-use Rattle.applications.proofs.Held.{dwell-broken, dwelt-volts, holds, no_leak}
+use Rattle.applications.proofs.one_application.Climbing.{passed_on, stopped}
+use Rattle.applications.proofs.one_application.Held.{dwell-broken, dwelt-volts, holds, no_leak}
 use Rattle.applications.proofs.holding.hold.Goals as goal
 
 pub returns-in_err-dwell-clause-err : goal.returns-in_err-dwell-clause-err

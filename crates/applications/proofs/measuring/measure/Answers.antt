@@ -1,4 +1,4 @@
-use Rattle.applications.proofs.Together.{IfErr-map, IfOk-map, measure-err, measure-ok, measure-stuck}
+use Rattle.applications.proofs.one_application.Together.{IfErr-map, IfOk-map, measure-err, measure-ok, measure-stuck}
 use Rattle.applications.proofs.measuring.measure.Goals as goal
 
 pub returns-in-Ok-clause-ok : goal.returns-in-Ok-clause-ok

@@ -2,7 +2,7 @@ use Rattle.std.proofs.Common.{sym, subst, ◌∙◌}
 use Rattle.applications.specs.Measuring.{StopsAtRest}
 use Rattle.std.proofs.Common.{None}
 use Rattle.rig.proofs.Happening.{Happens-none}
-use Rattle.applications.proofs.Together.{nothing-runs, route-refused-runs, stops-memory}
+use Rattle.applications.proofs.one_application.Together.{nothing-runs, route-refused-runs, stops-memory}
 use Rattle.applications.proofs.measuring.start.Goals as goal
 
 pub returns-in-Err-clause-err : goal.returns-in-Err-clause-err

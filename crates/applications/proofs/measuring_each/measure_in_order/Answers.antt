@@ -2,8 +2,8 @@ use Rattle.std.proofs.Common.{◌∙◌, None, List, [], refl, sym, subst}
 use Rattle.rig.specs.declared.event.Leak.{Leak}
 use Rattle.applications.specs.Each.{MeasuresEach}
 use Rattle.applications.specs.Measuring.{StopsAtRest}
-use Rattle.applications.proofs.Runs.{IfErr-by, measures-of, stopped-after}
-use Rattle.applications.proofs.LeakEach.{Each-more, Each-none, each-no_memory, next_pair}
+use Rattle.applications.proofs.one_by_one.Runs.{IfErr-by, measures-of, stopped-after}
+use Rattle.applications.proofs.one_by_one.LeakEach.{Each-more, Each-none, each-no_memory, next_pair}
 use Rattle.applications.proofs.measuring_each.measure_in_order.Goals as goal
 
 pub loop-pair-init : goal.loop-pair-init

@@ -1,5 +1,5 @@
-use Rattle.applications.proofs.Together.{IfErr-map, IfOk-map}
-use Rattle.applications.proofs.Stood.{stand-err, stand-ok, stand-stuck}
+use Rattle.applications.proofs.one_application.Together.{IfErr-map, IfOk-map}
+use Rattle.applications.proofs.one_application.Stood.{stand-err, stand-ok, stand-stuck}
 use Rattle.applications.proofs.standing.stand.Goals as goal
 
 pub returns-in-Ok-clause-ok : goal.returns-in-Ok-clause-ok

@@ -1,8 +1,8 @@
 use Rattle.std.proofs.Common.{subst}
 use Rattle.rig.specs.Trail.{Determines}
-use Rattle.applications.proofs.InOrder.{runs-in_order, stop-in_order, voltage-by}
-use Rattle.applications.proofs.Together.{IfOk-map}
-use Rattle.applications.proofs.EnduredEach.{withstood-rests, withstood-tallies}
+use Rattle.applications.proofs.one_by_one.InOrder.{runs-in_order, stop-in_order, voltage-by}
+use Rattle.applications.proofs.one_application.Together.{IfOk-map}
+use Rattle.applications.proofs.one_by_one.EnduredEach.{withstood-rests, withstood-tallies}
 use Rattle.applications.proofs.standing_each.stand_each.Goals as goal
 
 pub returns-clause-voltage : goal.returns-clause-voltage

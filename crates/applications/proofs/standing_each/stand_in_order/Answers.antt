@@ -1,6 +1,6 @@
 use Rattle.std.proofs.Common.{◌∙◌, refl}
-use Rattle.applications.proofs.Runs.{IfErr-by, stopped-after}
-use Rattle.applications.proofs.EnduredEach.{StoodAll-more, StoodAll-none, broke-of, failed-at, once-of, pair_next}
+use Rattle.applications.proofs.one_by_one.Runs.{IfErr-by, stopped-after}
+use Rattle.applications.proofs.one_by_one.EnduredEach.{StoodAll-more, StoodAll-none, broke-of, failed-at, once-of, pair_next}
 use Rattle.applications.proofs.standing_each.stand_in_order.Goals as goal
 
 pub loop-i-init : goal.loop-i-init

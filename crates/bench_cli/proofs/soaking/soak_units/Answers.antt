@@ -1,5 +1,5 @@
 use Rattle.std.proofs.Common.{◌∙◌}
-use Rattle.applications.proofs.Together.{IfOk-map}
+use Rattle.applications.proofs.one_application.Together.{IfOk-map}
 use Rattle.soak_pair.specs.Pair.{soak_line}
 use Rattle.bench_cli.specs.Soaking.SoakEnds.{soaked}
 use Rattle.bench_cli.proofs.facts.SoakFacts.{good_countable, bad_countable, line_is}

@@ -1,6 +1,6 @@
 use Rattle.std.proofs.Common.{◌≡◌, ◌-◌, refl, ◌∙◌, ap, arith}
 use Rattle.partition.specs.Classes.{points_below}
-use Rattle.partition.proofs.HeadLemmas.{points_below-push}
+use Rattle.partition.proofs.classes.HeadLemmas.{points_below-push}
 use Rattle.difference.proofs.MeasuredLemmas.{anchors_all, anchors_more, anchors_none, class_below, judged_inside}
 use Rattle.difference.proofs.anchors.anchors.Goals as goal
 

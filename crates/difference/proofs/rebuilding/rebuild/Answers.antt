@@ -5,7 +5,7 @@ use Rattle.partition.specs.Claims.{head_class}
 use Rattle.partition.specs.Classes.{class_at, classes_by, judged_in}
 use Rattle.partition.specs.Partitions.{IsLabel}
 use Rattle.difference.proofs.LabelSteps.{heads_are, labels_are, rebuilt_is}
-use Rattle.partition.proofs.MergeLemmas.{written-back}
+use Rattle.partition.proofs.classes.MergeLemmas.{written-back}
 use Rattle.difference.proofs.rebuilding.rebuild.Goals as goal
 
 pub write_labels-requires-clause-size : goal.write_labels-requires-clause-size

@@ -17,4 +17,4 @@ loop-i-preserved c =
     let home = c.index.ensures.same ∙ c.class_of.ensures ∙ ap (class_at m) c.head.ensures.head in
     let low = class_below t m c.requires c.head.result c.head.ensures.judged in
     let below : c.index.result < t.points = omega (arith, c.index.ensures.same, c.class_of.ensures) in
-    homes_push t m c.loop-i.homes.items c.loop-i.i c.index.result c.index_mut.result.now c.push.new.self c.loop-i.invariant home below c.index_mut.ensures.value c.in_ok-push.ensures
+    homes_push t m c.loop-i.homes.items c.loop-i.i c.index.result c.index_mut.result.now c.push.new.self c.loop-i.invariant home below c.index_mut.ensures.value c.in_ok-push.ensures.ok

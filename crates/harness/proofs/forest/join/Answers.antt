@@ -3,7 +3,7 @@ use Rattle.std.specs.Prelude.{All, IfOk, Result, Ok, Err}
 use Rattle.std.proofs.lemmas.List.FromFn.{length-range_with_len}
 use Rattle.base.specs.declared.memory.Memory.{Memory}
 use Rattle.partition.specs.Classes.{points_below}
-use Rattle.partition.proofs.JoinedPartition.{joined_by-own}
+use Rattle.partition.proofs.classes.JoinedPartition.{joined_by-own}
 use Rattle.rig.specs.Joins.{IsRowBelow, joins_of, joined_classes}
 use Rattle.rig.proofs.RowsBelow.{joins_below}
 use Rattle.harness.specs.Forest.{IsForest}

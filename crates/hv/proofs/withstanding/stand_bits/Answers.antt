@@ -2,7 +2,7 @@ use Rattle.std.proofs.Common.{â„•, List, None, Some, arith, refl, subst, sym, â—
 use Rattle.partition.specs.Partitions.{JoinsAllOf}
 use Rattle.wirelist.specs.Clusters.{cluster_classes}
 use Rattle.applications.specs.Measuring.{StopsAtRest}
-use Rattle.applications.proofs.Together.{nothing-runs}
+use Rattle.applications.proofs.one_application.Together.{nothing-runs}
 use Rattle.rig.proofs.Happening.{Happens-none}
 use Rattle.hv.specs.Withstanding.{Withstands}
 use Rattle.hv.specs.Routes.{bit_pairs}

@@ -2,8 +2,8 @@ use Rattle.std.proofs.Common.{arith, subst, ◌∙◌}
 use Rattle.partition.specs.NetTable.{programmed_of}
 use Rattle.rig.specs.Trail.{Determines}
 use Rattle.wirelist.specs.Clusters.{cluster_classes}
-use Rattle.applications.proofs.InOrder.{rest-zero, runs-in_order, stop-in_order, stop-zero, voltage-by}
-use Rattle.applications.proofs.Together.{IfOk-map}
+use Rattle.applications.proofs.one_by_one.InOrder.{rest-zero, runs-in_order, stop-in_order, stop-zero, voltage-by}
+use Rattle.applications.proofs.one_application.Together.{IfOk-map}
 use Rattle.hv.proofs.Stand.{bits-few, under_test, withstood-range, withstood-rests, withstood-tallies}
 use Rattle.hv.proofs.Trails.{IfOk-two, not_none}
 use Rattle.hv.proofs.withstanding.withstand.Goals as goal

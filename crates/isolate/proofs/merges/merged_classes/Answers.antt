@@ -3,7 +3,7 @@ use Rattle.std.proofs.lemmas.List.{get_or_default}
 use Rattle.partition.specs.Digits.{digits_of}
 use Rattle.partition.specs.Heads.{heads}
 use Rattle.partition.proofs.DigitLaws.{digits_least}
-use Rattle.partition.proofs.HeadLemmas.{heads_le, heads_of_some}
+use Rattle.partition.proofs.classes.HeadLemmas.{heads_le, heads_of_some}
 use Rattle.rig.specs.Trail.{ReadsAmong}
 use Rattle.rig.proofs.Reading.{Reads-none, Reads-refused, Reads-no_memory, Extends-refl}
 use Rattle.learn.proofs.Learnt.{OnErr-any}

@@ -2,7 +2,7 @@ use Rattle.std.proofs.Common.{◌∙◌, ◌<◌, ◌^◌, ℕ, List, [], ◌∷
 use Rattle.partition.specs.Classes.{class_at}
 use Rattle.partition.specs.NetTable.{all_nets, head_of}
 use Rattle.partition.specs.Partitions.{HasClass}
-use Rattle.partition.proofs.NetLaws.{judged-below}
+use Rattle.partition.proofs.tables.NetLaws.{judged-below}
 use Rattle.rig.specs.declared.event.Event.TheVariants.{Reading}
 use Rattle.rig.specs.Trail.{EndsWith, ReadsAmong}
 use Rattle.rig.proofs.Reading.{Extends-refl}

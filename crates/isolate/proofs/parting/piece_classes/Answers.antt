@@ -2,7 +2,7 @@ use Rattle.std.proofs.Common.{◌≡◌, ◌∙◌, ◌+◌, ◌<◌, ◌≤◌,
 use Rattle.partition.specs.Classes.{class_at, classes_by, judged_in}
 use Rattle.partition.specs.Heads.{heads}
 use Rattle.partition.specs.NetTable.{judged_points, programmed_of}
-use Rattle.partition.proofs.JudgedPartition.{classing-IsPartition}
+use Rattle.partition.proofs.classes.JudgedPartition.{classing-IsPartition}
 use Rattle.rig.proofs.Reading.{Reads-none, Reads-no_memory, Reads-refused, Reads-then}
 use Rattle.learn.proofs.Learnt.{OnErr-any}
 use Rattle.isolate.specs.Pieces.{ArePieces, is_of_net, most_placing}

@@ -1,7 +1,7 @@
 use Rattle.std.proofs.Common.{◌≡◌, ◌∙◌, ap, arith, length, List, ℕ, ◌+◌, ◌-◌}
 use Rattle.partition.specs.Heads.{heads}
 use Rattle.partition.specs.Digits.{digits_of}
-use Rattle.partition.proofs.HeadLemmas.{heads_le, heads_of_some}
+use Rattle.partition.proofs.classes.HeadLemmas.{heads_le, heads_of_some}
 use Rattle.partition.proofs.DigitLaws.{digits_least}
 use Rattle.rig.specs.Trail.{ReadsAmong}
 use Rattle.rig.proofs.Reading.{Reads-none, Reads-then, Reads-refused, Reads-no_memory, Extends-refl}

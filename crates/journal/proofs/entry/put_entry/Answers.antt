@@ -1,6 +1,6 @@
 use Rattle.std.proofs.Common.{◌+◌, length, arith}
-use Rattle.journal.proofs.Entries.{first_leaves, both_leave, has_entry, room, if_ok}
-use Rattle.journal.proofs.Reach.{reach_of_one, reach_of_two}
+use Rattle.journal.proofs.writing.Entries.{first_leaves, both_leave, has_entry, room, if_ok}
+use Rattle.journal.proofs.writing.Reach.{reach_of_one, reach_of_two}
 use Rattle.journal.proofs.entry.put_entry.Goals as goal
 
 pub returns-in_err-put-clause-any_moment : goal.returns-in_err-put-clause-any_moment

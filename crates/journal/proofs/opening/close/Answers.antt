@@ -1,4 +1,4 @@
-use Rattle.journal.proofs.Closing.{closing_leaves, closed_entries, still_at_rest}
+use Rattle.journal.proofs.writing.Closing.{closing_leaves, closed_entries, still_at_rest}
 use Rattle.journal.proofs.opening.close.Goals as goal
 
 pub returns-then-branch-clause-entries : goal.returns-then-branch-clause-entries

@@ -7,7 +7,7 @@ use Rattle.journal.specs.Found.{IsFound, IsOrderly}
 use Rattle.disk_edge.specs.Disk.{may_leave}
 use Rattle.disk_edge.proofs.Moments.{nothing_new}
 use Rattle.journal.specs.Opening.{MayOpen, AreRead}
-use Rattle.journal.proofs.Opens.{refused_later, surveyed, created_leaves, closed_leaves, durable_found, kept_created, kept_closed, holds_closed, found_short, found_entries, not_of_the_disk, untouched}
+use Rattle.journal.proofs.wholes.Opens.{refused_later, surveyed, created_leaves, closed_leaves, durable_found, kept_created, kept_closed, holds_closed, found_short, found_entries, not_of_the_disk, untouched}
 use Rattle.journal.proofs.opening.open.Goals as goal
 
 pub returns-in_err-sync-clause-any_moment : goal.returns-in_err-sync-clause-any_moment

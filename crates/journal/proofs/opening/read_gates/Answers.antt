@@ -2,7 +2,7 @@ use Rattle.std.proofs.Common.{◌≡◌, [], ◌∷◌, ◌++◌, length, refl, 
 use Rattle.std.proofs.lemmas.Grind.{common_steps}
 use Rattle.journal.specs.Opening.{Stands}
 use Rattle.journal.specs.Limits.{IsWithin}
-use Rattle.journal.proofs.Closing.{begins_in_order, begins_read, goes_on_read, goes_on_in_order, all_read, bad_read}
+use Rattle.journal.proofs.writing.Closing.{begins_in_order, begins_read, goes_on_read, goes_on_in_order, all_read, bad_read}
 use Rattle.journal.proofs.opening.read_gates.Goals as goal
 
 pub gates-init : goal.gates-init

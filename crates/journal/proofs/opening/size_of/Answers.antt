@@ -1,5 +1,5 @@
 use Rattle.std.proofs.Common.{◌∙◌, arith, rules}
-use Rattle.journal.proofs.Opened.{size_is}
+use Rattle.journal.proofs.wholes.Opened.{size_is}
 use Rattle.journal.proofs.opening.size_of.Goals as goal
 
 pub returns : goal.returns

@@ -4,7 +4,7 @@ use Rattle.std.proofs.lemmas.Bool.{eqb-false}
 use Rattle.std.proofs.lemmas.Result.{on_ok_weaker, IfErr-weaker}
 use Rattle.partition.specs.Classes.{points_below}
 use Rattle.partition.specs.NetFaults.{listed, net_faults}
-use Rattle.partition.proofs.ClaimLemmas.{nets_below, claimed_net, net_first}
+use Rattle.partition.proofs.tables.ClaimLemmas.{nets_below, claimed_net, net_first}
 use Rattle.partition.proofs.nets.claim_net.Goals as goal
 
 pub overflow_cast-result : goal.overflow_cast-result

@@ -4,8 +4,8 @@ use Rattle.partition.specs.Classes.{points_below}
 use Rattle.partition.specs.NetFaults.{ascending_net, first_fault}
 use Rattle.partition.specs.Claims.{owned_by}
 use Rattle.partition.specs.declared.nets.NetsRefusal.TheVariants.{NoneJudged}
-use Rattle.partition.proofs.IgnoredLemmas.{claimed_is, fault_is, lists_few, none_first, no_fault}
-use Rattle.partition.proofs.KeptLemmas.{unclaimed, named_is, ignored_is, kept}
+use Rattle.partition.proofs.tables.IgnoredLemmas.{claimed_is, fault_is, lists_few, none_first, no_fault}
+use Rattle.partition.proofs.tables.KeptLemmas.{unclaimed, named_is, ignored_is, kept}
 use Rattle.partition.proofs.nets.number_all.Goals as goal
 
 pub claim_all-requires-clause-free : goal.claim_all-requires-clause-free

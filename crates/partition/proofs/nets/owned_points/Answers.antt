@@ -3,7 +3,7 @@ use Rattle.std.proofs.lemmas.List.{get_or_default}
 use Rattle.std.proofs.lemmas.Bool.{eq-eqb, ne_eqb}
 use Rattle.partition.specs.Classes.{points_below}
 use Rattle.partition.specs.Claims.{nobody, owner_at}
-use Rattle.partition.proofs.AloneLemmas.{points_yes, points_no}
+use Rattle.partition.proofs.tables.AloneLemmas.{points_yes, points_no}
 use Rattle.partition.proofs.nets.owned_points.Goals as goal
 use Rattle.partition.proofs.nets.owned_points.Goals.{then-other-owner+in_ok-push, else-other-owner}
 

@@ -1,7 +1,7 @@
 use Rattle.std.proofs.Common.{◌≡◌, ℕ, ◌∙◌, ap, arith, map}
 use Rattle.partition.specs.Classes.{points_below}
 use Rattle.partition.specs.Claims.{head_class}
-use Rattle.partition.proofs.NetClasses.{class_more}
+use Rattle.partition.proofs.tables.NetClasses.{class_more}
 use Rattle.partition.proofs.partition.head_labels.Goals as goal
 
 pub loop-p-preserved : goal.loop-p-preserved

@@ -4,9 +4,9 @@ use Rattle.wirelist.specs.declared.outcome.Outcome.TheVariants.{Parts}
 use Rattle.parts_check.specs.Checking.{ChecksParts}
 use Rattle.unit_outcome.specs.Defined.{proven_charge}
 use Rattle.sequence.specs.Stages.{FindsProven, StopsLate}
-use Rattle.sequence.proofs.Parting.{late-parts, proven-faults, proven-stops, proven-then}
-use Rattle.sequence.proofs.Voltages.{some-length}
-use Rattle.sequence.proofs.Wirings.{when_err, when_ok}
+use Rattle.sequence.proofs.stages.Parting.{late-parts, proven-faults, proven-stops, proven-then}
+use Rattle.sequence.proofs.stages.Voltages.{some-length}
+use Rattle.sequence.proofs.stages.Wirings.{when_err, when_ok}
 use Rattle.sequence.proofs.components.test_proven.Goals as goal
 
 pub returns-then-is_empty-clause-ok : goal.returns-then-is_empty-clause-ok

@@ -1,7 +1,7 @@
 use Rattle.std.proofs.Common.{sym, subst}
 use Rattle.unit_outcome.specs.Tested.{IsStopped}
 use Rattle.sequence.proofs.Halting.{ended, unseated}
-use Rattle.sequence.proofs.Passing.{seat-judged}
+use Rattle.sequence.proofs.stages.Passing.{seat-judged}
 use Rattle.sequence.proofs.unit.run_unit.Goals as goal
 
 pub test_seated-requires-clause-judged : goal.test_seated-requires-clause-judged

@@ -5,8 +5,8 @@ use Rattle.unit_outcome.specs.Defined.{voltage_charge}
 use Rattle.hv.specs.Insulating.{Insulates}
 use Rattle.sequence.specs.Stages.{FindsVoltage, StopsLate}
 use Rattle.sequence.proofs.Going.{late-of, stops-later}
-use Rattle.sequence.proofs.Voltages.{goes-insulated, some-first, some-length, under_insulation, voltage-faults, voltage-then}
-use Rattle.sequence.proofs.Wirings.{when_err, when_ok}
+use Rattle.sequence.proofs.stages.Voltages.{goes-insulated, some-first, some-length, under_insulation, voltage-faults, voltage-then}
+use Rattle.sequence.proofs.stages.Wirings.{when_err, when_ok}
 use Rattle.sequence.proofs.voltage.test_insulation.Goals as goal
 
 pub returns-then-is_empty-clause-ok : goal.returns-then-is_empty-clause-ok

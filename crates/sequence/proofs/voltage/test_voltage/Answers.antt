@@ -1,5 +1,5 @@
-use Rattle.sequence.proofs.Voltages.{voltage-none}
-use Rattle.sequence.proofs.Wirings.{when_ok}
+use Rattle.sequence.proofs.stages.Voltages.{voltage-none}
+use Rattle.sequence.proofs.stages.Wirings.{when_ok}
 use Rattle.sequence.proofs.voltage.test_voltage.Goals as goal
 
 pub returns-in-None-clause-ok : goal.returns-in-None-clause-ok

@@ -2,7 +2,7 @@ use Rattle.std.proofs.Common.{◌≡◌, None, sym, subst, ◌∙◌}
 use Rattle.wirelist.specs.declared.outcome.Outcome.{Outcome}
 use Rattle.unit_outcome.specs.Defined.{voltage_charge, withstand_or_pass}
 use Rattle.sequence.specs.Stages.{FindsBreakdown, StopsLate}
-use Rattle.sequence.proofs.Broken.{finds-breakdown, finds-none, none-of, some-second, under_test}
+use Rattle.sequence.proofs.stages.Broken.{finds-breakdown, finds-none, none-of, some-second, under_test}
 use Rattle.sequence.proofs.Going.{late-of}
 use Rattle.sequence.proofs.voltage.test_withstand.Goals as goal
 

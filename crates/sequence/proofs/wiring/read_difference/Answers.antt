@@ -1,5 +1,5 @@
 use Rattle.sequence.proofs.Judged.{few-points}
-use Rattle.sequence.proofs.Wirings.{different}
+use Rattle.sequence.proofs.stages.Wirings.{different}
 use Rattle.difference.proofs.Judging.{measured-over}
 use Rattle.sequence.proofs.wiring.read_difference.Goals as goal
 

@@ -7,7 +7,7 @@ use Rattle.learn.specs.Learned.{IsLearned}
 use Rattle.unit_outcome.specs.Enough.{class_count, net_classes}
 use Rattle.sequence.proofs.Contradicted.{short-contradicts}
 use Rattle.rig.specs.Readings.{Reads}
-use Rattle.sequence.proofs.Wirings.{differs-then, isolated, stops-then, when_err, when_ok, wiring-of}
+use Rattle.sequence.proofs.stages.Wirings.{differs-then, isolated, stops-then, when_err, when_ok, wiring-of}
 use Rattle.sequence.proofs.wiring.read_isolation.Goals as goal
 
 pub read_difference-requires-clause-contradiction : goal.read_difference-requires-clause-contradiction

@@ -7,7 +7,7 @@ use Rattle.rig.specs.Readings.{Reads}
 use Rattle.sequence.specs.Wired.{IsOfJudged}
 use Rattle.unit_outcome.specs.Enough.{checking_readings, judged_count, net_classes}
 use Rattle.sequence.proofs.Contradicted.{open-contradicts}
-use Rattle.sequence.proofs.Wirings.{continuity-bound, continuity-count, differs-then, still-judged, stops-then, when_err, when_ok, wires-then, wiring-of}
+use Rattle.sequence.proofs.stages.Wirings.{continuity-bound, continuity-count, differs-then, still-judged, stops-then, when_err, when_ok, wires-then, wiring-of}
 use Rattle.sequence.proofs.wiring.read_wiring.Goals as goal
 
 pub read_isolation-requires-clause-judged : goal.read_isolation-requires-clause-judged

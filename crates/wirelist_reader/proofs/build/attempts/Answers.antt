@@ -1,6 +1,6 @@
 use Rattle.wirelist_reader.specs.declared.kind.Kind.TheVariants.{Attempts}
-use Rattle.wirelist_reader.proofs.BuildFacts.{attempts_number}
-use Rattle.wirelist_reader.proofs.BuildLists.{first_fits}
+use Rattle.wirelist_reader.proofs.faultless.BuildFacts.{attempts_number}
+use Rattle.wirelist_reader.proofs.faultless.BuildLists.{first_fits}
 use Rattle.wirelist_reader.proofs.build.attempts.Goals as goal
 
 pub number_at-requires : goal.number_at-requires

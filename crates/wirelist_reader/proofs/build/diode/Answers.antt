@@ -1,5 +1,5 @@
 use Rattle.wirelist_reader.proofs.build.diode.Goals as goal
-use Rattle.wirelist_reader.proofs.BuildFacts.{diode_name, diode_point, diode_window}
+use Rattle.wirelist_reader.proofs.faultless.BuildFacts.{diode_name, diode_point, diode_window}
 
 pub name_at-requires : goal.name_at-requires
 name_at-requires c = diode_name c.args.row.now c.requires.fit c.requires.kind

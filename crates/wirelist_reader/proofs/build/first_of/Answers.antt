@@ -1,6 +1,6 @@
 use Rattle.std.proofs.Common.{◌≡◌, true, rules}
 use Rattle.wirelist_reader.specs.Rows.{is_kind}
-use Rattle.wirelist_reader.proofs.BuildLists.{first_row}
+use Rattle.wirelist_reader.proofs.faultless.BuildLists.{first_row}
 use Rattle.wirelist_reader.proofs.build.first_of.Goals as goal
 
 pub returns-then-is_kind : goal.returns-then-is_kind

@@ -2,8 +2,8 @@ use Rattle.std.proofs.Common.{ℕ, List, drop, map, ap, sym, ◌∙◌}
 use Rattle.std.proofs.lemmas.Result.{IfOk-weaker}
 use Rattle.wirelist_reader.specs.Kinds.{number}
 use Rattle.wirelist_reader.specs.declared.kind.Kind.TheVariants.{Ignore}
-use Rattle.wirelist_reader.proofs.BuildFacts.{ignored_points}
-use Rattle.wirelist_reader.proofs.BuildLists.{first_fits, none_ignored}
+use Rattle.wirelist_reader.proofs.faultless.BuildFacts.{ignored_points}
+use Rattle.wirelist_reader.proofs.faultless.BuildLists.{first_fits, none_ignored}
 use Rattle.wirelist_reader.proofs.ReadFacts.{first_row_is}
 use Rattle.wirelist_reader.proofs.build.listed_ignored.Goals as goal
 

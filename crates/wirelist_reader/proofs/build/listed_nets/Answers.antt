@@ -1,8 +1,8 @@
 use Rattle.std.proofs.Common.{◌≡◌, true, rules}
 use Rattle.wirelist_reader.specs.Rows.{is_kind}
 use Rattle.wirelist_reader.specs.declared.kind.Kind.TheVariants.{Net}
-use Rattle.wirelist_reader.proofs.BuildFacts.{net_points}
-use Rattle.wirelist_reader.proofs.BuildLists.{row_fits}
+use Rattle.wirelist_reader.proofs.faultless.BuildFacts.{net_points}
+use Rattle.wirelist_reader.proofs.faultless.BuildLists.{row_fits}
 use Rattle.wirelist_reader.proofs.build.listed_nets.Goals as goal
 
 pub points_from-requires : goal.points_from-requires

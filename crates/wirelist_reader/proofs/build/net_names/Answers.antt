@@ -1,8 +1,8 @@
 use Rattle.std.proofs.Common.{◌≡◌, true, rules}
 use Rattle.wirelist_reader.specs.Rows.{is_kind}
 use Rattle.wirelist_reader.specs.declared.kind.Kind.TheVariants.{Net}
-use Rattle.wirelist_reader.proofs.BuildFacts.{net_name}
-use Rattle.wirelist_reader.proofs.BuildLists.{row_fits}
+use Rattle.wirelist_reader.proofs.faultless.BuildFacts.{net_name}
+use Rattle.wirelist_reader.proofs.faultless.BuildLists.{row_fits}
 use Rattle.wirelist_reader.proofs.build.net_names.Goals as goal
 
 pub name_at-requires : goal.name_at-requires

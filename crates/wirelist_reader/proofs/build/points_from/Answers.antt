@@ -1,5 +1,5 @@
 use Rattle.std.proofs.Common.{arith}
-use Rattle.wirelist_reader.proofs.BuildLists.{point_more}
+use Rattle.wirelist_reader.proofs.faultless.BuildLists.{point_more}
 use Rattle.wirelist_reader.proofs.build.points_from.Goals as goal
 
 pub point_at-requires : goal.point_at-requires

@@ -1,5 +1,5 @@
 use Rattle.wirelist_reader.proofs.build.resistor.Goals as goal
-use Rattle.wirelist_reader.proofs.BuildFacts.{resistor_name, resistor_point, resistor_window}
+use Rattle.wirelist_reader.proofs.faultless.BuildFacts.{resistor_name, resistor_point, resistor_window}
 
 pub name_at-requires : goal.name_at-requires
 name_at-requires c = resistor_name c.args.row.now c.requires.fit c.requires.kind

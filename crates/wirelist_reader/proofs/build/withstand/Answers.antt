@@ -1,6 +1,6 @@
 use Rattle.wirelist_reader.specs.declared.kind.Kind.TheVariants.{Withstand}
-use Rattle.wirelist_reader.proofs.BuildFacts.{withstand_numbers}
-use Rattle.wirelist_reader.proofs.BuildLists.{first_fits}
+use Rattle.wirelist_reader.proofs.faultless.BuildFacts.{withstand_numbers}
+use Rattle.wirelist_reader.proofs.faultless.BuildLists.{first_fits}
 use Rattle.wirelist_reader.proofs.build.withstand.Goals as goal
 
 pub number_at-requires : goal.number_at-requires

@@ -1,5 +1,5 @@
 use Rattle.std.proofs.Common.{◌<◌, inl, inr, length, rules}
-use Rattle.partition.proofs.ClaimLemmas.{none_more}
+use Rattle.partition.proofs.tables.ClaimLemmas.{none_more}
 use Rattle.wirelist_reader.specs.Refusals.{row_faults}
 use Rattle.wirelist_reader.proofs.CheckFacts.{first_row_fault}
 use Rattle.wirelist_reader.proofs.check.check_rows.Goals as goal

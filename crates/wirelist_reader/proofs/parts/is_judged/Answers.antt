@@ -1,7 +1,7 @@
 use Rattle.std.proofs.Common.{◌∙◌, sym, arith, le-ltb}
 use Rattle.partition.specs.Classes.{has}
 use Rattle.partition.specs.NetTable.{judged_points}
-use Rattle.partition.proofs.NetLaws.{judged-below}
+use Rattle.partition.proofs.tables.NetLaws.{judged-below}
 use Rattle.wirelist_reader.proofs.Numbers.{not_true}
 use Rattle.wirelist_reader.proofs.parts.is_judged.Goals as goal
 

@@ -5,7 +5,7 @@ use Rattle.wirelist_reader.specs.Refusals.{FindsOrMemory, most_bytes, rows_refus
 use Rattle.wirelist_reader.specs.Rows.{program_of}
 use Rattle.wirelist.specs.declared.program.Program.{Program}
 use Rattle.wirelist.specs.declared.refusal.WireRefusal.{WireRefusal}
-use Rattle.wirelist_reader.proofs.ReadBackLaw.{answers_back, too_long}
+use Rattle.wirelist_reader.proofs.printed.ReadBackLaw.{answers_back, too_long}
 use Rattle.wirelist_reader.proofs.ReadFacts.{short_file}
 use Rattle.wirelist_reader.proofs.reading.read.Goals as goal
 

@@ -1,8 +1,8 @@
 use Rattle.std.proofs.Common.{◌∙◌, List, ℕ, inl, inr, ap, rules}
 use Rattle.wirelist_reader.specs.Rows.{field_at, is_kind, number_at}
 use Rattle.wirelist_reader.specs.declared.kind.Kind.TheVariants.{Part, Points}
-use Rattle.wirelist_reader.proofs.BuildFacts.{part_name, part_revision, points_number}
-use Rattle.wirelist_reader.proofs.BuildLists.{first_fits}
+use Rattle.wirelist_reader.proofs.faultless.BuildFacts.{part_name, part_revision, points_number}
+use Rattle.wirelist_reader.proofs.faultless.BuildLists.{first_fits}
 use Rattle.wirelist_reader.proofs.ReadFacts.{first_row_is, has_first, has_none, heads_missing, heads_there}
 use Rattle.wirelist_reader.proofs.reading.read_heads.Goals as goal
 use Rattle.wirelist_reader.proofs.reading.read_heads.Goals.{in_default-via-in-Some+in_default, in_default-via-in_default}

@@ -1,7 +1,7 @@
 use Rattle.std.proofs.Common.{◌++◌}
 use Rattle.wirelist_reader.specs.Refusals.{cluster_faults, net_faults, part_faults}
 use Rattle.wirelist_reader.specs.Rows.{ends_of, program_of}
-use Rattle.wirelist_reader.proofs.GivenRows.{fit_of_faultless}
+use Rattle.wirelist_reader.proofs.faultless.GivenRows.{fit_of_faultless}
 use Rattle.wirelist_reader.proofs.ReadFacts.{found_in_left}
 use Rattle.wirelist_reader.proofs.reading.read_nets_and_parts.Goals as goal
 

@@ -4,9 +4,9 @@ use Rattle.wirelist.specs.Clusters.{ComponentsInside}
 use Rattle.wirelist.specs.Programs.{IsProgram}
 use Rattle.wirelist_reader.specs.Refusals.{cluster_faults}
 use Rattle.wirelist_reader.specs.Rows.{program_of}
-use Rattle.wirelist_reader.proofs.GivenEnds.{inside_of_faultless}
-use Rattle.wirelist_reader.proofs.GivenProgram.{program_of_faultless}
-use Rattle.wirelist_reader.proofs.GivenRows.{fit_of_faultless}
+use Rattle.wirelist_reader.proofs.faultless.GivenEnds.{inside_of_faultless}
+use Rattle.wirelist_reader.proofs.faultless.GivenProgram.{program_of_faultless}
+use Rattle.wirelist_reader.proofs.faultless.GivenRows.{fit_of_faultless}
 use Rattle.wirelist_reader.proofs.ReadFacts.{parts_faultless, parts_refused}
 use Rattle.wirelist_reader.proofs.reading.read_parts.Goals as goal
 

@@ -1,4 +1,4 @@
-use Rattle.wirelist_reader.proofs.GivenRows.{fit_of_faultless}
+use Rattle.wirelist_reader.proofs.faultless.GivenRows.{fit_of_faultless}
 use Rattle.wirelist_reader.proofs.reading.read_rows.Goals as goal
 
 pub read_heads-requires : goal.read_heads-requires

@@ -1,4 +1,4 @@
-use Rattle.wirelist_reader.proofs.NamedRows.{named_name}
+use Rattle.wirelist_reader.proofs.faultless.NamedRows.{named_name}
 use Rattle.wirelist_reader.proofs.seen.name_of.Goals as goal
 
 pub name_at-requires : goal.name_at-requires

@@ -1,4 +1,4 @@
-use Rattle.wirelist_reader.proofs.NamedRows.{window_end_number}
+use Rattle.wirelist_reader.proofs.faultless.NamedRows.{window_end_number}
 use Rattle.wirelist_reader.proofs.seen.window_end.Goals as goal
 
 pub number_at-requires : goal.number_at-requires

@@ -1,4 +1,4 @@
-use Rattle.partition.proofs.HeadLemmas.{points_below-push}
+use Rattle.partition.proofs.classes.HeadLemmas.{points_below-push}
 use Rattle.harness.proofs.forest.Forest.new.Goals as goal
 
 pub loop-point-preserved : goal.loop-point-preserved

@@ -2,8 +2,8 @@ use Rattle.std.proofs.Common.{◌≡◌, ◌+◌, ◌≤◌, [], ◌∷◌, ◌+
 use Rattle.std.proofs.lemmas.Grind.{common_steps}
 use Rattle.journal.specs.declared.TheConstants.{LONGEST_FILE}
 use Rattle.journal.specs.Gates.{last_gate}
-use Rattle.journal.proofs.Places.{next_for, end_within, gates_push, kept_after, each_stands, length-bytes}
-use Rattle.journal.proofs.Reach.{append_limit}
+use Rattle.journal.proofs.writing.Places.{next_for, end_within, gates_push, kept_after, each_stands, length-bytes}
+use Rattle.journal.proofs.writing.Reach.{append_limit}
 use Rattle.journal.proofs.journal.Journal.append.Goals as goal
 
 pub put_entry-requires-clause-within : goal.put_entry-requires-clause-within

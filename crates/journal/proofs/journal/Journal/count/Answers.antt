@@ -1,6 +1,6 @@
 use Rattle.std.proofs.Common.{◌≡◌, length, arith}
 use Rattle.std.proofs.lemmas.Grind.{common_steps}
-use Rattle.journal.proofs.Places.{told_count}
+use Rattle.journal.proofs.writing.Places.{told_count}
 use Rattle.journal.proofs.journal.Journal.count.Goals as goal
 
 pub returns-clause-told : goal.returns-clause-told

@@ -1,7 +1,7 @@
 use Rattle.std.proofs.Common.{◌≡◌, ℕ, List, Some, ◌+◌, ◌-◌, length, slice_range, sym, ◌∙◌, ap, arith}
-use Rattle.journal.proofs.Between.{gate_steps, gate_within, entry_is}
+use Rattle.journal.proofs.writing.Between.{gate_steps, gate_within, entry_is}
 use Rattle.journal.specs.Format.{AtRest}
-use Rattle.journal.proofs.Places.{told_file}
+use Rattle.journal.proofs.writing.Places.{told_file}
 use Rattle.journal.proofs.journal.Journal.entry.Goals as goal
 
 pub overflow_add-from : goal.overflow_add-from

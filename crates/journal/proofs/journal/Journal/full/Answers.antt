@@ -1,6 +1,6 @@
 use Rattle.std.proofs.Common.{◌≡◌, ◌↔◌, ℕ, IsTrue, ◌∙◌, subst}
 use Rattle.journal.specs.Format.{end_after, IsFull}
-use Rattle.journal.proofs.Places.{told_end}
+use Rattle.journal.proofs.writing.Places.{told_end}
 use Rattle.journal.proofs.journal.Journal.full.Goals as goal
 
 pub returns-clause-told : goal.returns-clause-told

@@ -4,9 +4,9 @@ use Rattle.disk_edge.specs.Disk.{LeavesOnly}
 use Rattle.journal.specs.Format.{IsSound}
 use Rattle.journal.specs.Journal.{KeepsLimit}
 use Rattle.journal.specs.Refusal.{IsOfTheFile}
-use Rattle.journal.proofs.Places.{each_stands}
-use Rattle.journal.proofs.Reach.{mount_limit}
-use Rattle.journal.proofs.Wrong.{one_wrong, not_wrong, refused_wrong}
+use Rattle.journal.proofs.writing.Places.{each_stands}
+use Rattle.journal.proofs.writing.Reach.{mount_limit}
+use Rattle.journal.proofs.wholes.Wrong.{one_wrong, not_wrong, refused_wrong}
 use Rattle.journal.proofs.journal.Journal.mount.Goals as goal
 
 pub returns-in-Ok-clause-each_image : goal.returns-in-Ok-clause-each_image

@@ -1,6 +1,6 @@
 use Rattle.std.proofs.Common.{◌≡◌, true, false, inl, inr, ◌∙◌, arith}
 use Rattle.std.proofs.lemmas.Grind.{common_steps}
-use Rattle.journal.proofs.Opened.{closed_at, cut_short, cut_long, whole}
+use Rattle.journal.proofs.wholes.Opened.{closed_at, cut_short, cut_long, whole}
 use Rattle.journal.proofs.opening.Behind.read.Goals as goal
 use Rattle.journal.proofs.opening.Behind.read.Goals.{then-size-gt-LONGEST_BODY-via-then-size-gt-LONGEST_BODY, then-size-gt-LONGEST_BODY-via-else-size-gt-LONGEST_BODY+then-len-gate}
 

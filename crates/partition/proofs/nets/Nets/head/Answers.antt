@@ -1,7 +1,7 @@
 use Rattle.std.proofs.Common.{◌≡◌, ℕ, true, sym, ◌∙◌, ap, subst}
 use Rattle.partition.specs.Classes.{has}
 use Rattle.partition.specs.NetTable.{head_of, judged_points}
-use Rattle.partition.proofs.NetClasses.{head_first, head_judged}
+use Rattle.partition.proofs.tables.NetClasses.{head_first, head_judged}
 use Rattle.partition.proofs.nets.Nets.head.Goals as goal
 
 pub returns-clause-head : goal.returns-clause-head

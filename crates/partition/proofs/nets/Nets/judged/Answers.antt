@@ -1,6 +1,6 @@
 use Rattle.std.proofs.Common.{ap, arith}
 use Rattle.partition.specs.NetTable.{NetTable}
-use Rattle.partition.proofs.KeptLemmas.{judged_read}
+use Rattle.partition.proofs.tables.KeptLemmas.{judged_read}
 use Rattle.partition.proofs.nets.Nets.judged.Goals as goal
 
 pub returns : goal.returns

@@ -1,6 +1,6 @@
 use Rattle.std.proofs.Common.{length, arith, ap}
 use Rattle.partition.specs.NetTable.{NetTable, judged_points}
-use Rattle.partition.proofs.KeptLemmas.{judged_rest}
+use Rattle.partition.proofs.tables.KeptLemmas.{judged_rest}
 use Rattle.partition.proofs.nets.Nets.judged_count.Goals as goal
 
 pub overflow_cast-result-2 : goal.overflow_cast-result-2

@@ -1,8 +1,8 @@
 use Rattle.std.proofs.Common.{◌≡◌, ◌<◌, ℕ, List, length, sym, ◌∙◌, ap, subst, arith}
 use Rattle.std.specs.List.Sorted.{IsStrictlyIncreasing}
 use Rattle.partition.specs.NetTable.{IsNetTable, net_count}
-use Rattle.partition.proofs.KeptLemmas.{lone_read}
-use Rattle.partition.proofs.NetClasses.{net_some, net_increasing, named_read}
+use Rattle.partition.proofs.tables.KeptLemmas.{lone_read}
+use Rattle.partition.proofs.tables.NetClasses.{net_some, net_increasing, named_read}
 use Rattle.partition.proofs.nets.Nets.net.Goals as goal
 
 pub returns-then-i-len : goal.returns-then-i-len

@@ -1,7 +1,7 @@
 use Rattle.std.proofs.Common.{◌≡◌, ◌<◌, ℕ, arith, ap, sym, subst}
 use Rattle.partition.specs.NetTable.{NetTable, IsNetTable, net_at, net_count}
-use Rattle.partition.proofs.NetLaws.{judged-below}
-use Rattle.partition.proofs.KeptLemmas.{number_read, net_at-below}
+use Rattle.partition.proofs.tables.NetLaws.{judged-below}
+use Rattle.partition.proofs.tables.KeptLemmas.{number_read, net_at-below}
 use Rattle.partition.proofs.nets.Nets.net_of.Goals as goal
 
 pub index-requires-2 : goal.index-requires-2

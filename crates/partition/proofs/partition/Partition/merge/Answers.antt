@@ -1,8 +1,8 @@
 use Rattle.std.proofs.Common.{◌≡◌, ℕ, List, sym, ◌∙◌, ap, subst, arith, take, drop, length, ◌++◌, map, cond, eqb}
 use Rattle.partition.specs.Classes.{merged}
 use Rattle.partition.specs.Partitions.{IsOver, IsPartitionValue, JoinsBesides}
-use Rattle.partition.proofs.JudgedPartition.{merged-over}
-use Rattle.partition.proofs.MergeLemmas.{merged-joins, merged-valid, merged-is, written-back}
+use Rattle.partition.proofs.classes.JudgedPartition.{merged-over}
+use Rattle.partition.proofs.classes.MergeLemmas.{merged-joins, merged-valid, merged-is, written-back}
 use Rattle.partition.proofs.partition.Partition.merge.Goals as goal
 
 made : (c : goal.After-self-1) → take c.self.inside.classes.len (c.relabel.new.classes ++ drop (length c.relabel.new.classes) c.self.inside.classes.items) ≡ merged c.args.self.now c.args.a c.args.b

@@ -1,6 +1,6 @@
 use Rattle.std.proofs.Common.{sym, subst, refl}
 use Rattle.partition.specs.Partitions.{IsPartitionValue}
-use Rattle.partition.proofs.NetClasses.{programmed_is, programmed_valid}
+use Rattle.partition.proofs.tables.NetClasses.{programmed_is, programmed_valid}
 use Rattle.partition.proofs.partition.Partition.of_nets.Goals as goal
 
 pub invariant_of-result : goal.invariant_of-result

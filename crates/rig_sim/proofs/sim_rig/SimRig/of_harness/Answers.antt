@@ -2,7 +2,7 @@ use Rattle.std.proofs.Common.{[], length, ◌∙◌, ap, sym, subst, arith}
 use Rattle.std.proofs.lemmas.List.Elements.{All-weaker}
 use Rattle.std.proofs.lemmas.List.FromFn.{length-range_with_len}
 use Rattle.partition.specs.Partitions.{IsPartitionOfAll}
-use Rattle.partition.proofs.JoinedPartition.{joined_by-own}
+use Rattle.partition.proofs.classes.JoinedPartition.{joined_by-own}
 use Rattle.harness.specs.Harness.{IsUnitOf}
 use Rattle.rig_sim.specs.Logs.{Logged}
 use Rattle.rig_sim.specs.SimRig.{HasSmallConductance}

@@ -1,0 +1,5 @@
+pub mod Lasting
+pub mod InOrder
+pub mod Runs
+pub mod LeakEach
+pub mod EnduredEach

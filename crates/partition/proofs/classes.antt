@@ -1,0 +1,12 @@
+pub mod FirstPoint
+pub mod ClassLaws
+pub mod WalkLaws
+pub mod JoinedPartition
+pub mod Labels
+pub mod Programmed
+pub mod FieldLaw
+pub mod HeadLemmas
+pub mod SamePartition
+pub mod MergeLemmas
+pub mod LabelClasses
+pub mod JudgedPartition

@@ -1,0 +1,6 @@
+pub mod NetLaws
+pub mod ClaimLemmas
+pub mod IgnoredLemmas
+pub mod AloneLemmas
+pub mod KeptLemmas
+pub mod NetClasses

@@ -1,0 +1,5 @@
+pub mod Wirings
+pub mod Broken
+pub mod Voltages
+pub mod Parting
+pub mod Passing

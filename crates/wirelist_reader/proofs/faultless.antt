@@ -1,0 +1,11 @@
+pub mod BuildFacts
+pub mod GivenLists
+pub mod GivenRows
+pub mod GivenEnds
+pub mod GivenPairs
+pub mod GivenNames
+pub mod GivenLinks
+pub mod BuildLists
+pub mod GivenParts
+pub mod GivenProgram
+pub mod NamedRows

@@ -1,0 +1,9 @@
+pub mod PrintedLists
+pub mod PrintedRows
+pub mod PrintedNets
+pub mod PrintedKinds
+pub mod PrintedProgram
+pub mod PrintedWhole
+pub mod PrintedParts
+pub mod PrintedFaults
+pub mod ReadBackLaw
