@@ -1,5 +1,6 @@
 -- A command, by what its parts say.
-use Rattle.std.proofs.Common.{◌≡◌, ◌⊎◌, inl, inr, ⊎_elim, ℕ, ◌-◌, ◌≤◌, true, false, List, [], ◌∷◌, ◌++◌, length, Option, Some, None, refl, sym, ◌∙◌, ap, subst, arith, Result, Ok, Err, IfSome, length-append}
+use Rattle.std.proofs.Common.{◌≡◌, ◌⊎◌, inl, inr, ⊎_elim, ℕ, ◌-◌, ◌≤◌, Bool, true, false, List, [], ◌∷◌, ◌++◌, length, Option, Some, None, refl, sym, ◌∙◌, ap, subst, arith, Result, Ok, Err, IfSome, length-append}
+use Rattle.std.specs.Prelude.{if◌then◌else◌}
 use Rattle.std.specs.List.{slice_get}
 use Rattle.disk_edge.specs.Disk.{DiskState, LeavesOnly, EachImage}
 use Rattle.journal.specs.Journal.{KeepsLimit}
@@ -23,15 +24,16 @@ use Rattle.ledger.specs.Ledger.{Tells}
 use Rattle.station.specs.declared.answer.Answer.{Answer}
 use Rattle.station.specs.declared.answer.Answer.TheVariants as answer
 use Rattle.station.specs.declared.answer.Refused.{Refused}
+use Rattle.station.specs.declared.answer.Refused.TheVariants as refused
 use Rattle.station.specs.declared.station.StepDone.{StepDone}
 use Rattle.station.specs.declared.stops.StepStop.{StepStop}
 use Rattle.station.specs.declared.stops.StepStop.TheVariants.{Disk, NotZero, Memory}
 use Rattle.station.specs.AnswerText.{HasDays, RefusedHasDays}
 use Rattle.station.specs.Applied.{Applied, Storing}
 use Rattle.station.specs.View.{StationState, IsStanding}
-use Rattle.station.specs.Step.{Reply, answered, not_at_zero, body_of, record_of, keeps, tested_unit, StepBy, Tests}
-use Rattle.station.specs.Ended.{Ends, EndsBy, replied, end_of, Stores, StoredOr}
-use Rattle.station.specs.RigAfter.{TestOf, Leaves, LeavesFor, LeftOrTested, AnsweredFor, StaysOrKeeps}
+use Rattle.station.specs.Step.{Reply, answered, not_at_zero, body_of, record_of, keeps, refuses, stores, tested_unit, StepBy, Tests}
+use Rattle.station.specs.Ended.{End, Ends, EndsBy, replied, disk_after, end_of, rig_after, Stores, StoredOr}
+use Rattle.station.specs.RigAfter.{Bears, TestOf, Leaves, LeavesFor, LeftOrTested, AnsweredFor, StaysOrKeeps}
 use Rattle.station.proofs.Ending.{Chosen, chosen, any_findings, unchanged, leaves_all, lost_all, stuck_all, allows_more, from_same, lost_or_not, says_keep, says_stored, says_test}
 
 -- the last record is the one that was stored
@@ -62,6 +64,21 @@ leaves_kept (command.Rework id serial) notest p q attempt outcome old new same =
 leaves_kept (command.Release id serial) notest p q attempt outcome old new same = same
 leaves_kept (command.Scrap id serial) notest p q attempt outcome old new same = same
 
+-- without what the rig shows
+unborne : (old : StationState) (end : End) (A B : Findings → Reply → List StationRecord → Type 0) → EndsBy old end (λ f reply later. A f reply later × B f reply later) → EndsBy old end A
+unborne old end A B by = record {
+  findings = by.findings;
+  told = by.told;
+  ends = allows_more old (λ reply later. A by.findings reply later × B by.findings reply later) end (A by.findings) (λ reply later both. both.0) by.ends;
+}
+
+-- a record that was to be stored is the last one, or there was no room
+stores_bear : (old : StationState) (disk : DiskState) (new : RigState) (r : StationRecord) (full : Bool) (later : List StationRecord) → is_full old.records ≡ full → later ≡ (keeps old.records r).1 → Leaves old.program r.body old.rig new → Bears old disk later new
+stores_bear old disk new r true later is kept leaves =
+    inr (inl (kept ∙ ap (λ (b : Bool). (if b then refuses old.records refused.Full else stores old.records r).1) is))
+stores_bear old disk new r false later is kept leaves =
+    inr (inr (stored_leaves old.program old.records later r old.rig new (kept ∙ ap (λ (b : Bool). (if b then refuses old.records refused.Full else stores old.records r).1) is) leaves))
+
 module _ (Of : (List ℕ → ℕ → Type 0) → Type 0) (old new : StationState) where
   answered_keep : (a : Answer) (c : Command) (moment : ℕ) → IsNoTest c → StoredOr old (record_of old.program moment 0 Pass c) new.records a → new.rig ≡ old.rig → AnsweredFor Of old new a
   answered_keep (answer.Stored number v) c moment notest stored same =
@@ -74,15 +91,19 @@ module _ {R D : Type 0} (rs : R → RigState) (ds : D → DiskState) (Of : (List
   pub answers_with : (done : StepDone R D) (a : Answer) (rig : RigState) → HasDays a → done.answer ≡ a → done.station ≡ record old { rig = rig } → IsStanding done.station
       → (Tells old.disk → Chosen (told_by old.program old.rig) (λ f. Allowed f (answered a) old.records)) → AnsweredFor Of old (record old { rig = rig }) a
       → told_by old.program rig ≡ told_by old.program old.rig → StaysOrKeeps old.rig rig → Applied rs ds Of Allowed old (Ok done)
-  answers_with done a rig days answer_is station_is standing ch says told kept = record {
-    step = λ tells.
+  answers_with done a rig days answer_is station_is standing ch says told kept =
+    let Shown : Findings → Reply → List StationRecord → Type 0 = λ f reply later. Allowed f reply later × Bears old done.station.disk later done.station.rig in
+    let bears : Tells old.disk → EndsBy old (replied (answered done.answer) done.station) Shown = λ tells.
         let made = ch tells in
         record {
           findings = made.findings;
           told = made.are_told;
-          ends = subst (λ (x : Answer). Ends old (replied (answered x) done.station) (Allowed made.findings)) (sym answer_is)
-              (leaves_all old (Allowed made.findings) done.station (answered a) (ap (λ (s : StationState). s.disk) station_is) (ap (λ (s : StationState). s.records) station_is) made.holds);
-        };
+          ends = subst (λ (x : Answer). Ends old (replied (answered x) done.station) (Shown made.findings)) (sym answer_is)
+              (leaves_all old (Shown made.findings) done.station (answered a) (ap (λ (s : StationState). s.disk) station_is) (ap (λ (s : StationState). s.records) station_is) (made.holds, inr (inl refl)));
+        } in
+    record {
+    step = λ tells. unborne old (replied (answered done.answer) done.station) Allowed (λ f reply later. Bears old done.station.disk later done.station.rig) (bears tells);
+    bears = bears;
     days = subst HasDays (sym answer_is) days;
     standing = standing;
     same = record { program = ap (λ (s : StationState). s.program) station_is; told = ap (λ (s : StationState). told_by s.program s.rig) station_is ∙ told };
@@ -108,6 +129,11 @@ module _ {R D : Type 0} (rs : R → RigState) (ds : D → DiskState) (Of : (List
       let some = allowed any.findings in
       record {
         step = λ tells. record { findings = any.findings; told = any.are_told; ends = lost_all old (Allowed any.findings) (ds disk) some.0 some.1 same some.2 };
+        bears = λ tells. record {
+          findings = any.findings;
+          told = any.are_told;
+          ends = lost_all old (λ reply later. Allowed any.findings reply later × Bears old (ds disk) later (rs rig)) (ds disk) some.0 some.1 same (some.2, inl same);
+        };
         days = tt;
         standing = tt;
         same = tt;
@@ -123,6 +149,11 @@ module _ {R D : Type 0} (rs : R → RigState) (ds : D → DiskState) (Of : (List
       → Of (λ serial attempt. IsNotAtZero old.program serial attempt old.rig (rs rig)) → Keeps old.rig (rs rig) → Applied rs ds Of Allowed old (Err (NotZero rig disk))
   sticks rig disk same images ch stuck keeps = record {
     step = λ tells. record { findings = ch.findings; told = ch.are_told; ends = stuck_all old (Allowed ch.findings) (ds disk) same ch.holds };
+    bears = λ tells. record {
+      findings = ch.findings;
+      told = ch.are_told;
+      ends = stuck_all old (λ reply later. Allowed ch.findings reply later × Bears old (ds disk) later (rs rig)) (ds disk) same (ch.holds, inl same);
+    };
     days = tt;
     standing = tt;
     same = tt;
@@ -147,10 +178,25 @@ module _ {R D : Type 0} (rs : R → RigState) (ds : D → DiskState) where
               (λ reply later stored. says_keep any.findings old.program old.records c moment reply later stored) (storing.step tells);
         }
 
+    keeps_bears : (result : Result (StepDone R D) (StepStop R D)) → Storing rs ds (record_of old.program moment 0 Pass c) old result
+        → Tells old.disk → EndsBy old (end_of ds result) (λ f reply later. StepBy f old.program old.records c moment decision.Keep reply later × Bears old (disk_after (end_of ds result)) later (rig_after rs result))
+    keeps_bears result storing tells =
+        let any = any_findings (told_by old.program old.rig) in
+        let r = record_of old.program moment 0 Pass c in
+        let leaves = leaves_kept c notest old.program old.program 0 Pass old.rig (rig_after rs result) storing.rig in
+        record {
+          findings = any.findings;
+          told = any.are_told;
+          ends = allows_more old (Stores old.records r) (end_of ds result) (λ reply later. StepBy any.findings old.program old.records c moment decision.Keep reply later × Bears old (disk_after (end_of ds result)) later (rig_after rs result))
+              (λ reply later stored. (says_keep any.findings old.program old.records c moment reply later stored, stores_bear old (disk_after (end_of ds result)) (rig_after rs result) r (is_full old.records) later refl stored.1 leaves))
+              (storing.step tells);
+        }
+
     pub keeps_applied : (result : Result (StepDone R D) (StepStop R D)) → Storing rs ds (record_of old.program moment 0 Pass c) old result
         → Applied rs ds (TestOf c decision.Keep) (λ f. StepBy f old.program old.records c moment decision.Keep) old result
     keeps_applied (Ok done) storing = record {
       step = keeps_step (Ok done) storing;
+      bears = keeps_bears (Ok done) storing;
       days = stored_days (record_of old.program moment 0 Pass c) old done.station.records done.answer storing.answers;
       standing = storing.standing;
       same = record { program = storing.program; told = ap (λ (p : Program). told_by p done.station.rig) storing.program ∙ ap (told_by old.program) storing.rig };
@@ -162,6 +208,7 @@ module _ {R D : Type 0} (rs : R → RigState) (ds : D → DiskState) where
     }
     keeps_applied (Err (Disk rig disk)) storing = record {
       step = keeps_step (Err (Disk rig disk)) storing;
+      bears = keeps_bears (Err (Disk rig disk)) storing;
       days = tt;
       standing = tt;
       same = tt;
@@ -174,6 +221,7 @@ module _ {R D : Type 0} (rs : R → RigState) (ds : D → DiskState) where
     keeps_applied (Err (NotZero rig disk)) storing = absurd storing.stop
     keeps_applied (Err (Memory rig disk)) storing = record {
       step = keeps_step (Err (Memory rig disk)) storing;
+      bears = keeps_bears (Err (Memory rig disk)) storing;
       days = tt;
       standing = tt;
       same = tt;
@@ -205,6 +253,23 @@ module _ {R D : Type 0} (rs : R → RigState) (ds : D → DiskState) where
               (λ reply later stored. says_stored old.records made (ch.findings serial attempt) outcome (told_room tells) ch.holds reply later stored) (storing.step tells));
         }
 
+    tests_bear : (result : Result (StepDone R D) (StepStop R D)) → Storing rs ds (made outcome) mid result
+        → Tells old.disk → EndsBy old (end_of ds result) (λ f reply later. Tests old.records made (f serial attempt) reply later × Bears old (disk_after (end_of ds result)) later (rig_after rs result))
+    tests_bear result storing tells =
+        let ch = chosen (told_by old.program old.rig) serial attempt (λ unit. HasOutcome unit outcome) tested.told (Some (record { outcome = outcome; charged = None }))
+        (record { found = record { outcome = outcome; charged = None }; there = refl; discharged = refl; outcome_is = refl }) in
+        let Shown : Reply → List StationRecord → Type 0 = λ reply later. Tests old.records made (ch.findings serial attempt) reply later × Bears old (disk_after (end_of ds result)) later (rig_after rs result) in
+        let leaves : IsTested old.program serial attempt old.rig (rig_after rs result) outcome = subst (λ (s : RigState). IsTested old.program serial attempt old.rig s outcome) (sym storing.rig) tested in
+        record {
+          findings = ch.findings;
+          told = ch.are_told;
+          ends = from_same old mid (end_of ds result) Shown refl refl
+              (allows_more mid (Stores old.records (made outcome)) (end_of ds result) Shown
+              (λ reply later stored. (says_stored old.records made (ch.findings serial attempt) outcome (told_room tells) ch.holds reply later stored,
+              stores_bear old (disk_after (end_of ds result)) (rig_after rs result) (made outcome) (is_full old.records) later refl stored.1 leaves))
+              (storing.step tells));
+        }
+
     answered_test : (new : StationState) (a : Answer) → StoredOr mid (made outcome) new.records a → new.rig ≡ rig → AnsweredFor (λ P. P serial attempt) old new a
     answered_test new (answer.Stored number v) stored same =
         let here : IsTested old.program serial attempt old.rig new.rig outcome = subst (λ (s : RigState). IsTested old.program serial attempt old.rig s outcome) (sym same) tested in
@@ -221,6 +286,7 @@ module _ {R D : Type 0} (rs : R → RigState) (ds : D → DiskState) where
     pub tests_applied : (result : Result (StepDone R D) (StepStop R D)) → Storing rs ds (made outcome) mid result → Applied rs ds (λ P. P serial attempt) (λ f. Tests old.records made (f serial attempt)) old result
     tests_applied (Ok done) storing = record {
       step = tests_step (Ok done) storing;
+      bears = tests_bear (Ok done) storing;
       days = stored_days (made outcome) mid done.station.records done.answer storing.answers;
       standing = storing.standing;
       same = record {
@@ -235,6 +301,7 @@ module _ {R D : Type 0} (rs : R → RigState) (ds : D → DiskState) where
     }
     tests_applied (Err (Disk r disk)) storing = record {
       step = tests_step (Err (Disk r disk)) storing;
+      bears = tests_bear (Err (Disk r disk)) storing;
       days = tt;
       standing = tt;
       same = tt;
@@ -247,6 +314,7 @@ module _ {R D : Type 0} (rs : R → RigState) (ds : D → DiskState) where
     tests_applied (Err (NotZero r disk)) storing = absurd storing.stop
     tests_applied (Err (Memory r disk)) storing = record {
       step = tests_step (Err (Memory r disk)) storing;
+      bears = tests_bear (Err (Memory r disk)) storing;
       days = tt;
       standing = tt;
       same = tt;
@@ -268,6 +336,16 @@ of_command rs ds old id serial staff attempt c A B result is more applied =
       step = λ tells.
           let by = here.step tells in
           record { findings = by.findings; told = by.told; ends = allows_more old (A by.findings) (end_of ds result) (B by.findings) (λ reply later. more by.findings reply later tells) by.ends };
+      bears = λ tells.
+          let by = here.bears tells in
+          let disk = disk_after (end_of ds result) in
+          let rig = rig_after rs result in
+          record {
+            findings = by.findings;
+            told = by.told;
+            ends = allows_more old (λ reply later. A by.findings reply later × Bears old disk later rig) (end_of ds result) (λ reply later. B by.findings reply later × Bears old disk later rig)
+                (λ reply later both. (more by.findings reply later tells both.0, both.1)) by.ends;
+          };
       days = here.days;
       standing = here.standing;
       same = here.same;

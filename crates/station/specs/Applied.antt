@@ -15,7 +15,7 @@ use Rattle.station.specs.AnswerText.{HasDays}
 use Rattle.station.specs.View.{StationState, IsManned, IsStanding, Same}
 use Rattle.station.specs.Step.{Reply}
 use Rattle.station.specs.Ended.{Ends, EndsBy, Stores, StoredOr, StopsStoring, StopsFor, disk_after, rig_after, end_of}
-use Rattle.station.specs.RigAfter.{RigEnds, StaysOrKeeps}
+use Rattle.station.specs.RigAfter.{Bears, RigEnds, StaysOrKeeps}
 
 -- the station of a rig and of what else there is
 abbrev pub station_of : RigState → LedgerState → Program → StationState
@@ -25,6 +25,8 @@ station_of rig ledger p = record { rig = rig; disk = ledger.disk; program = p; r
 pub record Applied {R D : Type 0} (rig_state : R → RigState) (disk_state : D → DiskState) (Of : (List ℕ → ℕ → Type 0) → Type 0)
     (Allowed : Findings → Reply → List StationRecord → Type 0) (old : StationState) (result : Result (StepDone R D) (StepStop R D)) : Type 0 where
   pub step : Tells old.disk → EndsBy old (end_of disk_state result) Allowed
+  pub bears : Tells old.disk → EndsBy old (end_of disk_state result)
+      (λ findings reply later. Allowed findings reply later × Bears old (disk_after (end_of disk_state result)) later (rig_after rig_state result))
   pub days : IfOk result (λ done. HasDays done.answer)
   pub standing : IfOk result (λ done. IsStanding done.station)
   pub same : IfOk result (λ done. Same old done.station)

@@ -4,6 +4,7 @@
 use Rattle.std.specs.Prelude.{◌≡◌, ◌⊎◌, ◌-◌, ℕ, List, length, IfSome, Result, Ok, Err}
 use Rattle.std.specs.List.{slice_get}
 use Rattle.base.specs.Causes.{Rose}
+use Rattle.disk_edge.specs.Disk.{DiskState}
 use Rattle.rig.specs.RigState.{RigState}
 use Rattle.wirelist.specs.declared.outcome.Outcome.{Outcome}
 use Rattle.wirelist.specs.declared.program.Program.{Program}
@@ -46,6 +47,11 @@ Leaves p body.Mark old new = new ≡ old
 -- so it is for the last of these records
 abbrev pub LeavesFor : Program → List StationRecord → RigState → RigState → Type 0
 LeavesFor p R old new = IfSome (slice_get R (length R - 1)) (λ (r : StationRecord). Leaves p r.body old new)
+
+-- The records behind, where a crash may keep one more, are what the rig shows: nothing was written, or no record came, or the last one is
+-- what was found.
+abbrev pub Bears : StationState → DiskState → List StationRecord → RigState → Type 0
+Bears old disk later new = (disk ≡ old.disk) ⊎ (later ≡ old.records) ⊎ LeavesFor old.program later old.rig new
 
 -- Below, `Of P` says that P holds of the serial and the attempt of the command's test.
 

@@ -104,8 +104,8 @@ impl<R: Rig, D: Disk> Station<R, D> {
     ghost use Rattle.station.specs.Step.{Step, StepBy, Tests, decision_at, record_of, test_record};
     ghost use Rattle.station.specs.View.{IsStanding, IsTold, Same};
     ghost use Rattle.serials.specs.declared.decision.Decision.TheVariants.{Test};
-    ghost use Rattle.station.specs.Ended.{AnswersBy, Ends, LeavesRecords, disk_after, rig_after, end_of, StopsFor};
-    ghost use Rattle.station.specs.RigAfter.{TestOf, RigEnds, VoltageEnds, GrowsTallies, StaysOrKeeps};
+    ghost use Rattle.station.specs.Ended.{AnswersBy, Ends, EndsBy, LeavesRecords, disk_after, rig_after, end_of, StopsFor};
+    ghost use Rattle.station.specs.RigAfter.{Bears, TestOf, RigEnds, VoltageEnds, GrowsTallies, StaysOrKeeps};
 
     /// The records, the first one first.
     pub fn records(&self) -> &RecordList
@@ -142,6 +142,11 @@ impl<R: Rig, D: Disk> Station<R, D> {
             → Ends self (end_of D.state result) (Step findings self.program self.records c.now now) }
         ensures some_step { Tells self.disk → (findings : Findings)
             × Ends self (end_of D.state result) (Step findings self.program self.records c.now now) }
+
+        // The same, and what a crash may keep of it is what the rig shows, though no answer was given.
+        ensures bears { Tells self.disk → EndsBy self (end_of D.state result) (λ findings reply later.
+            Step findings self.program self.records c.now now reply later
+            × Bears self (disk_after (end_of D.state result)) later (rig_after R.state result)) }
 
         // Whatever rig and disk tell: but for a stored record the records stay, and an answer by the rules is the decision's.
         ensures records { IfOk result (λ done. LeavesRecords self.records done.station.records done.answer) }
