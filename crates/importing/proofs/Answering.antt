@@ -117,7 +117,7 @@ module _ (began s : StationState) (rows : List Asked) (got mid moments late : Op
         };
     ran = ran_all began run.turns s got mid moments late run.so_far status rig disk mid
         (ran_between began run.turns s got mid moments late run.so_far none status rig mid is (not_ten status is) same_rig (writes_nothing [] mid))
-        (λ tells. keeps_between began s (between_all run.turns began s tells run.so_far.history) standing status disk same_disk);
+        (λ tells. keeps_between began s (between_all run.turns began s tells run.so_far.history) standing status rig disk same_disk);
     limit = limit_and began.disk s.disk disk (limit_all run.turns began s run.so_far.history) (limit_same s.disk disk same_disk);
   }
 

@@ -14,7 +14,7 @@ use Rattle.importing.specs.declared.input.InputStop.TheVariants.{Failed, TooLong
 
 -- the disk keeps what it kept
 pub keeps_all : (s : StationState) → EachImage s.disk (IsImageOf s.records) → (status : ℕ) (disk : DiskState) → disk ≡ s.disk → Tells s.disk → ScriptKeeps s status disk
-keeps_all s standing status disk same tells = (keeps_between s s (between_all [] s s tells refl) standing status disk same).keeps
+keeps_all s standing status disk same tells = (keeps_between s s (between_all [] s s tells refl) standing status s.rig disk same).keeps
 
 -- where no count rose, memory ran out or the input is too long
 pub stop_complete : (before now : Counts) (stop : InputStop) (status : ℕ) → status ≡ stop_status stop → (Some stop ≡ Some Failed → Rose before.input now.input) → Completes before now status

@@ -11,7 +11,7 @@ use Rattle.applications.specs.Ordered.{IsStuckInOrder}
 use Rattle.records.specs.declared.record.StationRecord.{StationRecord}
 use Rattle.ledger.specs.Kept.{IsImageOf}
 use Rattle.ledger.specs.Ledger.{Tells}
-use Rattle.station.specs.RigAfter.{StaysInOrder}
+use Rattle.station.specs.RigAfter.{Bears, StaysInOrder}
 use Rattle.station.specs.View.{StationState}
 use Rattle.script.specs.Closing.{Closing, write_fault, disk_fault, memory, not_at_zero, status_of, closing_line}
 use Rattle.script.specs.Said.{Asked, Said, said_line, written, is_stuck}
@@ -29,18 +29,20 @@ pub record EndsUnsaid (old : StationState) (asked : Asked) (now : ℕ) (closing 
   pub disk_is : disk ≡ new.disk
   pub wrote : WritesFront (said_line said) got got'
 
--- what a command that was not answered might have been answered, and the records behind it, which a crash may leave
-pub record MayEnd (old : StationState) (asked : Asked) (now : ℕ) (disk : DiskState) : Type 0 where
+-- What a command that was not answered might have been answered, and the records behind it, which a crash may leave. What they say of a
+-- unit the rig shows.
+pub record MayEnd (old : StationState) (asked : Asked) (now : ℕ) (rig : RigState) (disk : DiskState) : Type 0 where
   pub said : Said
   pub later : List StationRecord
   pub step : Steps old asked now said later disk
   pub at_zero : is_stuck said ≡ false
+  pub bears : Bears old disk later rig
 
 -- There is no answer: the disk failed, or memory ran out.
 pub record EndsLost (old : StationState) (asked : Asked) (now : ℕ) (closing : Closing) (rig : RigState) (disk : DiskState)
     (got got' : Option (List ℕ)) : Type 0 where
   pub why : (closing ≡ disk_fault) ⊎ (closing ≡ memory)
-  pub may : Tells old.disk → MayEnd old asked now disk
+  pub may : Tells old.disk → MayEnd old asked now rig disk
   pub disk_goes_on : DiskGoesOn old.disk disk
   pub rig_goes_on : RigGoesOn old asked now rig
   pub order : StaysInOrder old.program old.rig rig

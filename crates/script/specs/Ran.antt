@@ -21,4 +21,5 @@ pub record ScriptRan (began : StationState) (got got' : Option (List ℕ)) (stat
   pub tells : StillTells began.rig rig
   pub order : IsInOrderOf began.program began.rig → InOrderAt began.program status rig
   pub keeps : Tells began.disk → ScriptKeeps began status ended
-  pub tests : (tells : Tells began.disk) → TestsShown began.program began.rig rig began.records (keeps tells).records said status
+  pub tests : (tells : Tells began.disk)
+      → TestsShown began.program began.rig rig began.records (keeps tells).records (keeps tells).later ended said status

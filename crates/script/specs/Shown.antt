@@ -3,10 +3,12 @@
 --     IsShown p tallies r                   a test that r records has a last tally that counts enough for its outcome
 --     test_count R, has_wiring R            how many tests the records have, and whether one found a wiring fault
 --     refuses_test said                     E16, E17, E20 or E21
+--     IsShownBehind p tallies R S           so has each test that S has behind R
 --     TestsShown                            all of it
-use Rattle.std.specs.Prelude.{◌≡◌, ℕ, ◌+◌, ◌*◌, ◌==◌, ◌&&◌, ◌||◌, Bool, true, false}
+use Rattle.std.specs.Prelude.{◌≡◌, ◌⊎◌, ℕ, ◌+◌, ◌*◌, ◌==◌, ◌&&◌, ◌||◌, Bool, true, false}
 use Rattle.std.specs.Prelude.{List, [], ◌∷◌, ◌++◌, bytes_eq, count_by, Option, Some, None, IfSome, IsTrue, ⊤}
 use Rattle.std.specs.List.{AllByRecursion}
+use Rattle.disk_edge.specs.Disk.{DiskState, EachImage}
 use Rattle.rig.specs.RigState.{RigState}
 use Rattle.rig.specs.declared.event.Tally.{Tally}
 use Rattle.wirelist.specs.declared.outcome.Verdict.{Verdict}
@@ -16,6 +18,7 @@ use Rattle.unit_outcome.specs.Enough.{Enough, checking_readings}
 use Rattle.records.specs.declared.record.Body.{Body}
 use Rattle.records.specs.declared.record.Body.TheVariants.{Tested}
 use Rattle.records.specs.declared.record.StationRecord.{StationRecord}
+use Rattle.ledger.specs.Kept.{IsImageOf}
 use Rattle.station.specs.declared.answer.Refused.{Refused}
 use Rattle.station.specs.declared.answer.Refused.TheVariants as refused
 use Rattle.station.specs.declared.answer.Answer.TheVariants as answer
@@ -44,6 +47,11 @@ last_tally serial attempt (tally ∷ more) = or_this (last_tally serial attempt 
 abbrev pub IsShown : Program → List Tally → Body → Type 0
 IsShown p tallies (Tested serial attempt staff outcome) = (tally : Tally) × (last_tally serial attempt tallies ≡ Some tally) × Enough p outcome tally
 IsShown p tallies others = ⊤
+
+-- what stands behind the records has such tallies
+abbrev pub IsShownBehind : Program → Option (List Tally) → List StationRecord → List StationRecord → Type 0
+IsShownBehind p tallies records later =
+    (more : List StationRecord) × (later ≡ records ++ more) × IfSome tallies (λ list. AllByRecursion (λ (r : StationRecord). IsShown p list r.body) more)
 
 -- ---- tests
 
@@ -87,7 +95,9 @@ is_done status = status == 0 || status == 6 || status == 12
 --     tallies  the last tally of each test's serial and attempt counts enough for its outcome
 --     spent    the group readings are those that each test takes, where no unit had a wiring fault and no test was refused
 --     last     the trail and all else shows what is said of the record that the last line stored
-pub record TestsShown (p : Program) (began rig : RigState) (found records : List StationRecord) (said : List Said) (status : ℕ) : Type 0 where
+--     under_way  of the line that was not answered each image keeps nothing, or what it recorded has such a tally too
+pub record TestsShown (p : Program) (began rig : RigState) (found records later : List StationRecord) (ended : DiskState) (said : List Said) (status : ℕ)
+    : Type 0 where
   pub added : List StationRecord
   pub is : records ≡ found ++ added
   pub tallies : IfSome rig.tallies (λ tallies. AllByRecursion (λ (r : StationRecord). IsShown p tallies r.body) added)
@@ -95,3 +105,4 @@ pub record TestsShown (p : Program) (began rig : RigState) (found records : List
   pub last : IsTrue (is_done status) → (before : List Said) (id : List ℕ) (number : ℕ) (v : Option Verdict)
       → said ≡ before ++ replied id (answered (answer.Stored number v)) ∷ []
       → (old : RigState) × LeavesFor p records old rig
+  pub under_way : EachImage ended (IsImageOf records) ⊎ IsShownBehind p rig.tallies records later

@@ -41,7 +41,7 @@ pub record Behind (s : StationState) (rig : RigState) (disk : DiskState) : Type 
 pub record Within (s : StationState) (rig : RigState) (disk : DiskState) : Type 0 where
   pub command : Command
   pub now : ℕ
-  pub may : Tells s.disk → MayEnd s (0, Some command) now disk
+  pub may : Tells s.disk → MayEnd s (0, Some command) now rig disk
   pub disk_goes_on : DiskGoesOn s.disk disk
   pub rig_goes_on : RigGoesOn s (0, Some command) now rig
   pub order : StaysInOrder s.program s.rig rig
@@ -75,7 +75,7 @@ within-disk s c now rig disk failed =
     record {
       command = c;
       now = now;
-      may = λ tells. lost_may s 0 c now disk (by_both s _ _ failed.step.told failed.step.some tells);
+      may = λ tells. lost_may s 0 c now rig disk (failed.bears tells);
       disk_goes_on = goes_on_disk s c now rig disk failed.goes_on;
       rig_goes_on = goes_on_rig s c now rig disk failed.goes_on;
       order = failed.order;
@@ -86,7 +86,7 @@ within-memory s c now rig disk ran =
     record {
       command = c;
       now = now;
-      may = λ tells. lost_may s 0 c now disk (by_both s _ _ ran.step.told ran.step.some tells);
+      may = λ tells. lost_may s 0 c now rig disk (ran.bears tells);
       disk_goes_on = goes_on_disk s c now rig disk ran.goes_on;
       rig_goes_on = goes_on_rig s c now rig disk ran.goes_on;
       order = ran.order;

@@ -92,27 +92,27 @@ module _ {R D : Type 0} (rs : R → RigState) (ds : D → DiskState) (Of : (List
       → (Tells old.disk → Chosen (told_by old.program old.rig) (λ f. Allowed f (answered a) old.records)) → AnsweredFor Of old (record old { rig = rig }) a
       → told_by old.program rig ≡ told_by old.program old.rig → StaysOrKeeps old.rig rig → Applied rs ds Of Allowed old (Ok done)
   answers_with done a rig days answer_is station_is standing ch says told kept =
-    let Shown : Findings → Reply → List StationRecord → Type 0 = λ f reply later. Allowed f reply later × Bears old done.station.disk later done.station.rig in
-    let bears : Tells old.disk → EndsBy old (replied (answered done.answer) done.station) Shown = λ tells.
-        let made = ch tells in
-        record {
-          findings = made.findings;
-          told = made.are_told;
-          ends = subst (λ (x : Answer). Ends old (replied (answered x) done.station) (Shown made.findings)) (sym answer_is)
-              (leaves_all old (Shown made.findings) done.station (answered a) (ap (λ (s : StationState). s.disk) station_is) (ap (λ (s : StationState). s.records) station_is) (made.holds, inr (inl refl)));
-        } in
-    record {
-    step = λ tells. unborne old (replied (answered done.answer) done.station) Allowed (λ f reply later. Bears old done.station.disk later done.station.rig) (bears tells);
-    bears = bears;
-    days = subst HasDays (sym answer_is) days;
-    standing = standing;
-    same = record { program = ap (λ (s : StationState). s.program) station_is; told = ap (λ (s : StationState). told_by s.program s.rig) station_is ∙ told };
-    stop = tt;
-    limit = unchanged old.disk done.station.disk (KeepsLimit old.disk) (ap (λ (s : StationState). s.disk) station_is);
-    disk_later = omega (arith, ap (λ (s : StationState). s.disk.faults) station_is);
-    rig = subst (λ (x : Answer). AnsweredFor Of old done.station x) (sym answer_is) (subst (λ (s : StationState). AnsweredFor Of old s a) (sym station_is) says);
-    rig_kept = subst (λ (s : StationState). StaysOrKeeps old.rig s.rig) (sym station_is) kept;
-  }
+      let Shown : Findings → Reply → List StationRecord → Type 0 = λ f reply later. Allowed f reply later × Bears old done.station.disk later done.station.rig in
+      let bears : Tells old.disk → EndsBy old (replied (answered done.answer) done.station) Shown = λ tells.
+      let made = ch tells in
+      record {
+        findings = made.findings;
+        told = made.are_told;
+        ends = subst (λ (x : Answer). Ends old (replied (answered x) done.station) (Shown made.findings)) (sym answer_is)
+            (leaves_all old (Shown made.findings) done.station (answered a) (ap (λ (s : StationState). s.disk) station_is) (ap (λ (s : StationState). s.records) station_is) (made.holds, inr (inl refl)));
+      } in
+      record {
+        step = λ tells. unborne old (replied (answered done.answer) done.station) Allowed (λ f reply later. Bears old done.station.disk later done.station.rig) (bears tells);
+        bears = bears;
+        days = subst HasDays (sym answer_is) days;
+        standing = standing;
+        same = record { program = ap (λ (s : StationState). s.program) station_is; told = ap (λ (s : StationState). told_by s.program s.rig) station_is ∙ told };
+        stop = tt;
+        limit = unchanged old.disk done.station.disk (KeepsLimit old.disk) (ap (λ (s : StationState). s.disk) station_is);
+        disk_later = omega (arith, ap (λ (s : StationState). s.disk.faults) station_is);
+        rig = subst (λ (x : Answer). AnsweredFor Of old done.station x) (sym answer_is) (subst (λ (s : StationState). AnsweredFor Of old s a) (sym station_is) says);
+        rig_kept = subst (λ (s : StationState). StaysOrKeeps old.rig s.rig) (sym station_is) kept;
+      }
 
   -- an answer that leaves all as it was
   pub answers_same : (done : StepDone R D) (a : Answer) → HasDays a → done.answer ≡ a → done.station ≡ old → IsStanding old → (Tells old.disk → (f : Findings) → Allowed f (answered a) old.records) → AnsweredFor Of old old a → Applied rs ds Of Allowed old (Ok done)
@@ -265,8 +265,10 @@ module _ {R D : Type 0} (rs : R → RigState) (ds : D → DiskState) where
           told = ch.are_told;
           ends = from_same old mid (end_of ds result) Shown refl refl
               (allows_more mid (Stores old.records (made outcome)) (end_of ds result) Shown
-              (λ reply later stored. (says_stored old.records made (ch.findings serial attempt) outcome (told_room tells) ch.holds reply later stored,
-              stores_bear old (disk_after (end_of ds result)) (rig_after rs result) (made outcome) (is_full old.records) later refl stored.1 leaves))
+              (λ reply later stored. (
+                says_stored old.records made (ch.findings serial attempt) outcome (told_room tells) ch.holds reply later stored,
+                stores_bear old (disk_after (end_of ds result)) (rig_after rs result) (made outcome) (is_full old.records) later refl stored.1 leaves,
+              ))
               (storing.step tells));
         }
 

@@ -10,8 +10,8 @@ use Rattle.serials.specs.declared.command.Command.{Command}
 use Rattle.serials.specs.Commands.{id_of}
 use Rattle.station.specs.declared.stops.StepStop.{StepStop}
 use Rattle.station.specs.declared.stops.StepStop.TheVariants.{Disk, NotZero, Memory}
-use Rattle.station.specs.Ended.{Ends, end_of, disk_after, rig_after, StopsFor}
-use Rattle.station.specs.RigAfter.{RigEnds, StaysOrKeeps, GrowsTallies, VoltageEnds}
+use Rattle.station.specs.Ended.{EndsBy, Ends, end_of, disk_after, rig_after, StopsFor}
+use Rattle.station.specs.RigAfter.{Bears, RigEnds, StaysOrKeeps, GrowsTallies, VoltageEnds}
 use Rattle.station.specs.Step.{Step, not_at_zero}
 use Rattle.station.specs.View.{StationState, IsTold}
 use Rattle.http_exchange.specs.declared.request.Request.TheVariants as asks
@@ -27,6 +27,7 @@ use Rattle.station_http.specs.Served.{LastFor, IsTurn}
 pub stopped-by : {R D : Type 0} (rig_state : R → RigState) (disk_state : D → DiskState) (old : StationState) (c : Command) (now : ℕ) (halt : StepStop R D)
     → ((findings : Findings) → IsTold old findings → Ends old (end_of disk_state (Err halt)) (Step findings old.program old.records c now))
     → (Tells old.disk → (findings : Findings) × Ends old (end_of disk_state (Err halt)) (Step findings old.program old.records c now))
+    → (Tells old.disk → EndsBy old (end_of disk_state (Err halt)) (λ f reply later. Step f old.program old.records c now reply later × Bears old (disk_after (end_of disk_state (Err halt))) later (rig_after rig_state (Err halt))))
     → StopsFor rig_state disk_state old halt
     → LeavesOnly old.disk (disk_after (end_of disk_state (Err halt))) (KeepsLimit old.disk)
     → old.disk.faults ≤ (disk_after (end_of disk_state (Err halt))).faults
@@ -35,16 +36,17 @@ pub stopped-by : {R D : Type 0} (rig_state : R → RigState) (disk_state : D →
     → GrowsTallies (OfTest old c now) old.rig (rig_after rig_state (Err halt))
     → VoltageEnds rig_state old (Err halt)
     → WasStopped rig_state disk_state old c now halt
-stopped-by rig_state disk_state old c now (Disk rig disk) told some stops limit later did kept tallies order =
+stopped-by rig_state disk_state old c now (Disk rig disk) told some bears stops limit later did kept tallies order =
     record {
       step = record { told = told; some = some };
+      bears = bears;
       rose = stops.0;
       at_zero = stops.1;
       goes_on = record { limit = limit; disk_later = later; rig_kept = kept; tallies = tallies };
       tested = did;
       order = order;
     }
-stopped-by rig_state disk_state old c now (NotZero rig disk) told some stops limit later did kept tallies order =
+stopped-by rig_state disk_state old c now (NotZero rig disk) told some bears stops limit later did kept tallies order =
     record {
       step = record { told = told; some = some };
       kept = stops;
@@ -52,9 +54,10 @@ stopped-by rig_state disk_state old c now (NotZero rig disk) told some stops lim
       tested = did;
       order = order;
     }
-stopped-by rig_state disk_state old c now (Memory rig disk) told some stops limit later did kept tallies order =
+stopped-by rig_state disk_state old c now (Memory rig disk) told some bears stops limit later did kept tallies order =
     record {
       step = record { told = told; some = some };
+      bears = bears;
       at_zero = stops;
       goes_on = record { limit = limit; disk_later = later; rig_kept = kept; tallies = tallies };
       tested = did;

@@ -15,8 +15,8 @@ use Rattle.serials.specs.declared.command.Command.{Command}
 use Rattle.station.specs.declared.answer.Answer.{Answer}
 use Rattle.station.specs.declared.stops.StepStop.{StepStop}
 use Rattle.station.specs.declared.stops.StepStop.TheVariants.{Disk, NotZero, Memory}
-use Rattle.station.specs.Ended.{End, replied, stuck, lost, Ends}
-use Rattle.station.specs.RigAfter.{TestOf, AnsweredFor, LeftOrTested, StaysOrKeeps, GrowsTallies, StaysInOrder}
+use Rattle.station.specs.Ended.{End, replied, stuck, lost, Ends, EndsBy}
+use Rattle.station.specs.RigAfter.{Bears, TestOf, AnsweredFor, LeftOrTested, StaysOrKeeps, GrowsTallies, StaysInOrder}
 use Rattle.station.specs.Step.{answered, Step, decision_at}
 use Rattle.station.specs.View.{StationState, IsTold, IsStanding, Same}
 
@@ -46,9 +46,10 @@ pub record WasAnswered (old : StationState) (c : Command) (now : ℕ) (a : Answe
   pub rig : AnsweredFor (OfTest old c now) old new a
   pub order : StaysInOrder old.program old.rig new.rig
 
--- The disk failed, and counted it.
+-- The disk failed, and counted it. What a crash may keep of the command the rig shows.
 pub record FailedOnDisk (old : StationState) (c : Command) (now : ℕ) (rig : RigState) (disk : DiskState) : Type 0 where
   pub step : IsStep old c now (lost disk)
+  pub bears : Tells old.disk → EndsBy old (lost disk) (λ f reply later. Step f old.program old.records c now reply later × Bears old disk later rig)
   pub rose : Rose old.disk.faults disk.faults
   pub at_zero : rig.volts ≡ 0
   pub goes_on : GoesOn old c now rig disk
@@ -63,9 +64,10 @@ pub record WasStuck (old : StationState) (c : Command) (now : ℕ) (rig : RigSta
   pub tested : OfTest old c now (λ serial attempt. IsNotAtZero old.program serial attempt old.rig rig)
   pub order : IsStuckInOrder (programmed_of old.program.nets) (cluster_classes old.program) rig
 
--- Memory ran out.
+-- Memory ran out. What a crash may keep of the command the rig shows.
 pub record RanOut (old : StationState) (c : Command) (now : ℕ) (rig : RigState) (disk : DiskState) : Type 0 where
   pub step : IsStep old c now (lost disk)
+  pub bears : Tells old.disk → EndsBy old (lost disk) (λ f reply later. Step f old.program old.records c now reply later × Bears old disk later rig)
   pub at_zero : rig.volts ≡ 0
   pub goes_on : GoesOn old c now rig disk
   pub tested : LeftOrTested (OfTest old c now) old.program old.rig rig ⊎ OfTest old c now (λ serial attempt. IsCutOff old.program serial attempt old.rig rig)

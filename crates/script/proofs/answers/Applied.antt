@@ -19,7 +19,7 @@ use Rattle.serials.specs.Commands.{id_of}
 use Rattle.station.specs.declared.answer.Answer.{Answer}
 use Rattle.station.specs.AnswerText.{answer_line}
 use Rattle.station.specs.Ended.{End, replied, lost, stuck, Ends, EndsBy}
-use Rattle.station.specs.RigAfter.{TestOf, AnsweredFor, GrowsTallies, StaysInOrder, StaysOrKeeps}
+use Rattle.station.specs.RigAfter.{Bears, TestOf, AnsweredFor, GrowsTallies, StaysInOrder, StaysOrKeeps}
 use Rattle.station.specs.Step.{Reply, answered, not_at_zero, decision_at, Step}
 use Rattle.station.specs.View.{StationState, IsTold, Same}
 use Rattle.script.specs.Closing.{Closing, write_fault, memory}
@@ -88,17 +88,18 @@ module _ (s : StationState) (number : ℕ) (c : Command) (now : ℕ) where
   }
 
   -- one that was not
-  pub lost_may : (disk : DiskState) → EndsBy s (lost disk) (λ f. Step f s.program s.records c now) → MayEnd s (number, Some c) now disk
-  lost_may disk by = record {
+  pub lost_may : (rig : RigState) (disk : DiskState) → EndsBy s (lost disk) (λ f reply later. Step f s.program s.records c now reply later × Bears s disk later rig) → MayEnd s (number, Some c) now rig disk
+  lost_may rig disk by = record {
     said = said.replied (id_of c) by.ends.reply;
     later = by.ends.later;
     step = record {
       findings = by.findings;
       told = by.told;
-      step = record { reply = by.ends.reply; said_is = refl; step = by.ends.allowed };
+      step = record { reply = by.ends.reply; said_is = refl; step = by.ends.allowed.0 };
       images = by.ends.images;
     };
     at_zero = ap (λ (r : Reply). is_stuck (said.replied (id_of c) r)) by.ends.given.1;
+    bears = by.ends.allowed.1;
   }
 
   -- one whose three zero calls failed

@@ -1,5 +1,5 @@
 -- What a script leaves on the disk, whatever the rig tells.
-use Rattle.std.proofs.Common.{◌≡◌, inl, ⊎_elim, ℕ, IsTrue, List, [], ◌∷◌, Option, sym, ◌∙◌, subst, refl}
+use Rattle.std.proofs.Common.{◌≡◌, inl, inr, ⊎_elim, ℕ, IsTrue, List, [], ◌∷◌, Option, sym, ◌∙◌, subst, refl}
 use Rattle.disk_edge.specs.Disk.{DiskState, LeavesOnly, EachImage}
 use Rattle.disk_edge.proofs.Moments.{weaker, and_then, none_images}
 use Rattle.rig.specs.RigState.{RigState}
@@ -18,6 +18,7 @@ use Rattle.script.proofs.disk.Growing.{grown_answer, prefix_grown, prefix_and, p
 use Rattle.script.proofs.answers.History.{Turn, IsHistory}
 use Rattle.script.proofs.answers.Told.{one_between}
 use Rattle.script.proofs.answers.Closings.{leaves_more, either_after, busy_write, busy_disk}
+use Rattle.script.proofs.on_rig.Shapes.{Under, under_turn, under_may}
 
 -- a step's records begin with those before it
 pub step_grows : (s : StationState) (a : Asked) (now : ℕ) (said : Said) (later : List StationRecord) (disk : DiskState) → Steps s a now said later disk → IsPrefix s.records later
@@ -45,14 +46,15 @@ between_all (turn ∷ turns) s t tells (one, history) =
     }
 
 -- what is left, by the records of the lines that were answered
-pub record KeepsAt (began s : StationState) (status : ℕ) (disk : DiskState) : Type 0 where
+pub record KeepsAt (began s : StationState) (status : ℕ) (rig : RigState) (disk : DiskState) : Type 0 where
   pub keeps : ScriptKeeps began status disk
   pub is : keeps.records ≡ s.records
+  pub under : Under s rig keeps.later disk
 
 module _ (began s : StationState) (between : Between began s) (standing : EachImage s.disk (IsImageOf s.records)) where
   -- between two lines
-  pub keeps_between : (status : ℕ) (disk : DiskState) → disk ≡ s.disk → KeepsAt began s status disk
-  keeps_between status disk same =
+  pub keeps_between : (status : ℕ) (rig : RigState) (disk : DiskState) → disk ≡ s.disk → KeepsAt began s status rig disk
+  keeps_between status rig disk same =
       let kept : EachImage disk (IsImageOf s.records) = subst (λ (d : DiskState). EachImage d (IsImageOf s.records)) (sym same) standing in
       record {
         keeps = record {
@@ -65,11 +67,13 @@ module _ (began s : StationState) (between : Between began s) (standing : EachIm
           at_rest = λ rests. kept;
         };
         is = refl;
+        under = inr (inl refl);
       }
 
   -- a line whose records are these
-  keeps_under : (a : Asked) (now status : ℕ) (said : Said) (later : List StationRecord) (disk : DiskState) → Steps s a now said later disk → (IsTrue (is_at_rest status) → EachImage disk (IsImageOf s.records)) → KeepsAt began s status disk
-  keeps_under a now status said later disk steps rests =
+  keeps_under : (a : Asked) (now status : ℕ) (said : Said) (later : List StationRecord) (rig : RigState) (disk : DiskState) → Steps s a now said later disk → Under s rig later disk
+      → (IsTrue (is_at_rest status) → EachImage disk (IsImageOf s.records)) → KeepsAt began s status rig disk
+  keeps_under a now status said later rig disk steps under rests =
       let grows = step_grows s a now said later disk steps in
       record {
         keeps = record {
@@ -82,20 +86,22 @@ module _ (began s : StationState) (between : Between began s) (standing : EachIm
           at_rest = rests;
         };
         is = refl;
+        under = under;
       }
 
   busy_status : (status : ℕ) (closing : Closing) (P : Type 0) → status ≡ status_of closing → (IsTrue (is_at_rest (status_of closing)) → P) → IsTrue (is_at_rest status) → P
   busy_status status closing P is never rests = never (subst (λ (n : ℕ). IsTrue (is_at_rest n)) is rests)
 
   -- in a line
-  pub keeps_within : (a : Asked) (status : ℕ) (rig : RigState) (disk : DiskState) (got got' moments moments' : Option (List ℕ)) → EndsIn s a status rig disk got got' moments moments' → KeepsAt began s status disk
+  pub keeps_within : (a : Asked) (status : ℕ) (rig : RigState) (disk : DiskState) (got got' moments moments' : Option (List ℕ)) → EndsIn s a status rig disk got got' moments moments' → KeepsAt began s status rig disk
   keeps_within a status rig disk got got' moments moments' ends = ⊎_elim
-      (λ unsaid. subst (λ (d : DiskState). KeepsAt began s status d) (sym unsaid.disk_is)
-      (keeps_under a ends.now status unsaid.said unsaid.new.records unsaid.new.disk (unsaid.turn.step between.tells)
+      (λ unsaid. subst (λ (d : DiskState). KeepsAt began s status rig d) (sym unsaid.disk_is)
+      (keeps_under a ends.now status unsaid.said unsaid.new.records rig unsaid.new.disk (unsaid.turn.step between.tells)
+      (under_turn s unsaid.new a ends.now unsaid.said (unsaid.turn.step between.tells) unsaid.turn.did rig unsaid.rig_is unsaid.new.disk)
       (busy_status status ends.closing (EachImage unsaid.new.disk (IsImageOf s.records)) ends.status_is (λ rests. let busy = busy_write ends.closing unsaid.why in absurd (busy.other (busy.busy rests))))))
       (⊎_elim
       (λ lost. let may = lost.may between.tells in
-      keeps_under a ends.now status may.said may.later disk may.step
+      keeps_under a ends.now status may.said may.later rig disk may.step (under_may s a ends.now rig disk standing may)
       (busy_status status ends.closing (EachImage disk (IsImageOf s.records)) ends.status_is (λ rests. let busy = busy_disk ends.closing lost.why in absurd (busy.other (busy.busy rests)))))
-      (λ stuck. keeps_under a ends.now status stuck.said s.records disk (stuck.step between.tells) (λ rests. stuck.kept)))
+      (λ stuck. keeps_under a ends.now status stuck.said s.records rig disk (stuck.step between.tells) (inr (inl refl)) (λ rests. stuck.kept)))
       ends.how

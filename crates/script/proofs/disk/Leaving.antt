@@ -66,7 +66,7 @@ module _ (began s : StationState) (number : ℕ) (pending : List ℕ) (got mid m
     headline = λ scene script is_scene told. ends_at_end scene script began s number pending got mid moments late left left' run is_scene told standing left'' status is disk same_disk reads;
     ran = ran_all began run.turns s got mid moments late run.so_far status rig disk mid
         (ran_between began run.turns s got mid moments late run.so_far none status rig mid is (quiet_end status is) same_rig (writes_nothing [] mid))
-        (λ tells. keeps_between began s (between_all run.turns began s tells run.so_far.history) standing status disk same_disk);
+        (λ tells. keeps_between began s (between_all run.turns began s tells run.so_far.history) standing status rig disk same_disk);
     limit = limit_and began.disk s.disk disk (limit_all run.turns began s run.so_far.history) (limit_same s.disk disk same_disk);
   }
 
@@ -80,7 +80,7 @@ module _ (began s : StationState) (number : ℕ) (pending : List ℕ) (got mid m
         headline = λ scene script is_scene told. ends_after_last scene script began s number pending got mid moments late left left' run is_scene told standing line left'' new got' moments' new_standing reads passed status is disk same_disk;
         ran = ran_all began more.turns' new got got' moments moments' more.so_far status rig disk got'
             (ran_between began more.turns' new got got' moments moments' more.so_far none status rig got' is (quiet_end status is) same_rig (writes_nothing [] got'))
-            (λ tells. keeps_between began new (between_all more.turns' began new tells more.so_far.history) new_standing status disk same_disk);
+            (λ tells. keeps_between began new (between_all more.turns' began new tells more.so_far.history) new_standing status rig disk same_disk);
         limit = limit_and began.disk new.disk disk (limit_all more.turns' began new more.so_far.history) (limit_same new.disk disk same_disk);
       }
 
@@ -91,6 +91,6 @@ module _ (began s : StationState) (number : ℕ) (pending : List ℕ) (got mid m
     headline = λ scene script is_scene told. ends_stopped scene script began s number pending got mid moments late left left' run is_scene told standing stop pending' left'' reads status is disk same_disk got' closed;
     ran = ran_all began run.turns s got mid moments late run.so_far status rig disk got'
         (ran_between began run.turns s got mid moments late run.so_far (closing_for stop number) status rig got' is (quiet_stop stop number status is) same_rig closed)
-        (λ tells. keeps_between began s (between_all run.turns began s tells run.so_far.history) standing status disk same_disk);
+        (λ tells. keeps_between began s (between_all run.turns began s tells run.so_far.history) standing status rig disk same_disk);
     limit = limit_and began.disk s.disk disk (limit_all run.turns began s run.so_far.history) (limit_same s.disk disk same_disk);
   }

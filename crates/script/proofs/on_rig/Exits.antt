@@ -223,7 +223,7 @@ module _ (began : StationState) (turns : List Turn) (s : StationState) (got mid 
       ends.how
 
   -- all that is promised, with what is left on the disk
-  pub ran_all : (status : ℕ) (rig : RigState) (disk : DiskState) (got' : Option (List ℕ)) → Bare began turns s got got' status rig → (Tells began.disk → KeepsAt began s status disk) → ScriptRan began got got' status rig disk
+  pub ran_all : (status : ℕ) (rig : RigState) (disk : DiskState) (got' : Option (List ℕ)) → Bare began turns s got got' status rig → (Tells began.disk → KeepsAt began s status rig disk) → ScriptRan began got got' status rig disk
   ran_all status rig disk got' bare kept = record {
     said = bare.said;
     wrote = bare.wrote;
@@ -231,6 +231,8 @@ module _ (began : StationState) (turns : List Turn) (s : StationState) (got mid 
     tells = bare.tells;
     order = bare.order;
     keeps = λ tells. (kept tells).keeps;
-    tests = λ tells. subst (λ (R : List StationRecord). TestsShown began.program began.rig rig began.records R bare.said status) (sym (kept tells).is)
-        (tests_shown began s turns rig bare.said status tells so_far.history bare.tallies bare.done);
+    tests = λ tells.
+        let at = kept tells in
+        subst (λ (R : List StationRecord). TestsShown began.program began.rig rig began.records R at.keeps.later disk bare.said status) (sym at.is)
+        (tests_shown began s turns rig bare.said status at.keeps.later disk (program_all turns began s so_far.history) at.under tells so_far.history bare.tallies bare.done);
   }

@@ -1,6 +1,7 @@
 -- What a step adds to the records, and what that shows of the rig.
 use Rattle.std.proofs.Common.{◌≡◌, ◌⊎◌, inl, inr, ⊎_elim, ℕ, ◌+◌, ◌-◌, Bool, true, false, List, [], ◌∷◌, ◌++◌, length, Option, Some, None, refl, sym, ◌∙◌, ap, subst, arith, length-append}
 use Rattle.std.specs.Prelude.{if◌then◌else◌, slice_get, IfSome, ⊤}
+use Rattle.disk_edge.specs.Disk.{DiskState, EachImage}
 use Rattle.rig.specs.RigState.{RigState}
 use Rattle.wirelist.specs.declared.program.Program.{Program}
 use Rattle.wirelist.specs.declared.outcome.Outcome.{Outcome}
@@ -21,7 +22,7 @@ use Rattle.serials.specs.Scan.{by_id, tests as tests_of}
 use Rattle.serials.specs.Decide.{table, first_rule, allowed, by_rules, decided, decide, repeats_at}
 use Rattle.serials.specs.Decided.{IsNoTest, IsDecided}
 use Rattle.serials.proofs.DecideLemmas.{decide_is}
-use Rattle.ledger.specs.Kept.{is_full}
+use Rattle.ledger.specs.Kept.{is_full, IsImageOf}
 use Rattle.station.specs.declared.answer.Answer.{Answer}
 use Rattle.station.specs.declared.answer.Answer.TheVariants as answer
 use Rattle.station.specs.declared.answer.Refused.{Refused}
@@ -31,6 +32,7 @@ use Rattle.station.specs.Step.{Reply, answered, not_at_zero, moment_at, record_o
 use Rattle.station.specs.View.{StationState}
 use Rattle.script.specs.Said.{Asked, Said, replied}
 use Rattle.script.specs.Turns.{DidFor, Steps}
+use Rattle.script.specs.Ends.{MayEnd}
 use Rattle.script.specs.RigLines.{refuses_by}
 use Rattle.script.specs.Shown.{is_of_the_test, refuses_test}
 use Rattle.script.proofs.on_rig.Rigs.{test_of}
@@ -213,3 +215,47 @@ pub one_turn : (s t : StationState) (asked : Asked) (now : ℕ) (said : Said) �
 one_turn s t (number, None) now said steps did = stays (ap (λ (x : StationState). x.records) did.1) (λ quiet. ap (λ (x : StationState). x.rig.spent) did.1)
 one_turn s t (number, Some c) now said steps (a, said_so, did) =
     turn_of_shape s t c (decision_at s.program s.records c now) said steps.step.reply a steps.step.said_is said_so did (step_shape steps.findings s.program s.records c now steps.step.reply t.records steps.step.step)
+
+-- ---- the line under way
+
+-- of its record no image keeps anything, or there is none, or the rig shows what it says
+abbrev pub Under : StationState → RigState → List StationRecord → DiskState → Type 0
+Under s rig later disk =
+    EachImage disk (IsImageOf s.records)
+    ⊎ (later ≡ s.records)
+    ⊎ ((r : StationRecord) × (later ≡ s.records ++ r ∷ []) × IsNext s.records r.body × Leaves s.program r.body s.rig rig)
+
+-- a line that was answered
+pub under_turn : (s t : StationState) (asked : Asked) (now : ℕ) (said : Said) → Steps s asked now said t.records t.disk → DidFor s asked now said t → (rig : RigState) → rig ≡ t.rig → (disk : DiskState) → Under s rig t.records disk
+under_turn s t asked now said steps did rig is disk =
+    elim (one_turn s t asked now said steps did) [
+      | stays records spent ↦ inr (inl records)
+      | adds r records leaves next ↦ inr (inr (r, records, next, subst (λ (x : RigState). Leaves s.program r.body s.rig x) (sym is) leaves))
+    ]
+
+-- what a step adds
+step_adds : (s : StationState) (asked : Asked) (now : ℕ) (said : Said) (later : List StationRecord) (disk : DiskState) → Steps s asked now said later disk
+    → (later ≡ s.records) ⊎ ((r : StationRecord) × (later ≡ s.records ++ r ∷ []) × IsNext s.records r.body)
+step_adds s (number, None) now said later disk steps = inl steps.step.1
+step_adds s (number, Some c) now said later disk steps = ⊎_elim
+    (λ none. inl none.1)
+    (λ one. inr (one.0, one.2, one.3))
+    (step_shape steps.findings s.program s.records c now steps.step.reply later steps.step.step)
+
+-- a line that was not
+pub under_may : (s : StationState) (asked : Asked) (now : ℕ) (rig : RigState) (disk : DiskState) → EachImage s.disk (IsImageOf s.records) → (may : MayEnd s asked now rig disk) → Under s rig may.later disk
+under_may s asked now rig disk standing may = ⊎_elim
+    (λ same. inl (subst (λ (d : DiskState). EachImage d (IsImageOf s.records)) (sym same) standing))
+    (⊎_elim
+    (λ none. inr (inl none))
+    (λ leaves. ⊎_elim
+    (λ none. inr (inl none))
+    (λ one. inr (inr (
+      one.0,
+      one.1,
+      one.2,
+      some_at (slice_get may.later (length may.later - 1)) (λ (x : StationRecord). Leaves s.program x.body s.rig rig) one.0
+          (ap (λ (S : List StationRecord). slice_get S (length S - 1)) one.1 ∙ last_stored s.records one.0) leaves,
+    )))
+    (step_adds s asked now may.said may.later disk may.step)))
+    may.bears

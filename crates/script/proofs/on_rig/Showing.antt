@@ -1,9 +1,12 @@
 -- What the rig shows of recorded tests, line by line.
 use Rattle.std.proofs.Common.{◌≡◌, ◌⊎◌, inl, inr, ⊎_elim, ℕ, ◌+◌, ◌*◌, Bool, false, cond, List, [], ◌∷◌, ◌++◌, length, Option, Some, None, refl, sym, ◌∙◌, ap, subst, arith, append_assoc, append-nil}
-use Rattle.std.specs.Prelude.{IsTrue, ⊤}
+use Rattle.std.specs.Prelude.{IsTrue, IfSome, ⊤}
+use Rattle.std.specs.List.{AllByRecursion}
 use Rattle.std.proofs.lemmas.List.Sums.{sum_by-cons}
 use Rattle.std.proofs.Math.Nat.{add-mul}
+use Rattle.disk_edge.specs.Disk.{DiskState, EachImage}
 use Rattle.rig.specs.RigState.{RigState}
+use Rattle.rig.specs.declared.event.Tally.{Tally}
 use Rattle.wirelist.specs.declared.program.Program.{Program}
 use Rattle.wirelist.specs.declared.outcome.Outcome.TheVariants as outcome
 use Rattle.wirelist.specs.declared.outcome.Verdict.{Verdict}
@@ -15,6 +18,7 @@ use Rattle.records.specs.declared.record.StationRecord.{StationRecord}
 use Rattle.serials.specs.declared.command.Command.{Command}
 use Rattle.serials.specs.Commands.{id_of}
 use Rattle.serials.specs.Scan.{tests as tests_of}
+use Rattle.ledger.specs.Kept.{IsImageOf}
 use Rattle.ledger.specs.Ledger.{Tells}
 use Rattle.station.specs.declared.answer.Answer.{Answer}
 use Rattle.station.specs.declared.answer.Answer.TheVariants as answer
@@ -22,11 +26,11 @@ use Rattle.station.specs.RigAfter.{Leaves, LeavesFor, AnsweredFor, TestOf}
 use Rattle.station.specs.Step.{answered, moment_at, decision_at}
 use Rattle.station.specs.View.{StationState}
 use Rattle.script.specs.Said.{Asked, Said, no_command, replied}
-use Rattle.script.specs.Shown.{is_test, is_wiring, test_count, no_wiring, refuses_test, NoneRefused, is_done, TestsShown}
+use Rattle.script.specs.Shown.{is_test, is_wiring, test_count, no_wiring, refuses_test, NoneRefused, is_done, IsShown, IsShownBehind, TestsShown}
 use Rattle.script.specs.Turns.{OfAsked, RigGoesOn, DidFor}
 use Rattle.script.proofs.answers.History.{Turn, said_of, IsHistory}
-use Rattle.script.proofs.on_rig.Shapes.{stays, adds, one_turn, test_next}
-use Rattle.script.proofs.on_rig.Tallying.{HasTallies, some_all, tallies_grow, tallies_added}
+use Rattle.script.proofs.on_rig.Shapes.{stays, adds, one_turn, test_next, Under}
+use Rattle.script.proofs.on_rig.Tallying.{HasTallies, some_all, shown_added, tallies_grow, tallies_added}
 
 -- ---- tallies of the next test
 
@@ -157,10 +161,28 @@ last_all p (turn ∷ next ∷ turns) s t before id number v program (one, histor
 pub begins_shown : (p : Program) (s : StationState) → HasTallies p [] s.records s.rig.tallies
 begins_shown p s = record { shown = some_all s.rig.tallies (λ list. ⊤) (λ list. tt); past = tt }
 
+one_shown : (p : Program) (r : StationRecord) (o : Option (List Tally)) → IfSome o (λ list. IsShown p list r.body) → IfSome o (λ list. AllByRecursion (λ (x : StationRecord). IsShown p list x.body) (r ∷ []))
+one_shown p r None shown = tt
+one_shown p r (Some list) shown = (shown, tt)
+
+-- what the line under way recorded
+pub shown_under : (p : Program) (A : List StationRecord) (s : StationState) (rig : RigState) (later : List StationRecord) (disk : DiskState) → s.program ≡ p → HasTallies p A s.records s.rig.tallies → Under s rig later disk
+    → EachImage disk (IsImageOf s.records) ⊎ IsShownBehind p rig.tallies s.records later
+shown_under p A s rig later disk program has under = ⊎_elim
+    (λ images. inl images)
+    (⊎_elim
+    (λ none. inr ([], none ∙ sym (append-nil s.records), some_all rig.tallies (λ list. ⊤) (λ list. tt)))
+    (λ one. inr (
+      one.0 ∷ [],
+      one.1,
+      one_shown p one.0 rig.tallies (shown_added p A s.records s.rig rig one.0.body has one.2 (subst (λ (q : Program). Leaves q one.0.body s.rig rig) program one.3)).1,
+    )))
+    under
+
 -- the tests that were recorded, as the rig shows them at an exit
-pub tests_shown : (began s : StationState) (turns : List Turn) (rig : RigState) (said : List Said) (status : ℕ) → Tells began.disk → (history : IsHistory began turns s) → ((A : List StationRecord) → HasTallies began.program A s.records s.rig.tallies → HasTallies began.program A s.records rig.tallies)
-    → (IsTrue (is_done status) → (rig ≡ s.rig) × (said ≡ said_of turns)) → TestsShown began.program began.rig rig began.records s.records said status
-tests_shown began s turns rig said status tells history goes_on done =
+pub tests_shown : (began s : StationState) (turns : List Turn) (rig : RigState) (said : List Said) (status : ℕ) (later : List StationRecord) (disk : DiskState) → s.program ≡ began.program → Under s rig later disk → Tells began.disk → (history : IsHistory began turns s) → ((A : List StationRecord) → HasTallies began.program A s.records s.rig.tallies → HasTallies began.program A s.records rig.tallies)
+    → (IsTrue (is_done status) → (rig ≡ s.rig) × (said ≡ said_of turns)) → TestsShown began.program began.rig rig began.records s.records later disk said status
+tests_shown began s turns rig said status later disk program under tells history goes_on done =
     let shown = shown_all began.program turns [] began s refl tells history (begins_shown began.program began) in
     record {
       added = shown.added;
@@ -171,4 +193,5 @@ tests_shown began s turns rig said status tells history goes_on done =
           let at = done rests in
           let last = last_all began.program turns began s before id number v refl history (sym at.1 ∙ is) in
           (last.0, subst (λ (r : RigState). LeavesFor began.program s.records last.0 r) (sym at.0) last.1);
+      under_way = shown_under began.program shown.added s rig later disk program shown.tallies under;
     }

@@ -174,7 +174,7 @@ other_added : (p : Program) (A R : List StationRecord) (old new : RigState) (b :
 other_added p A R old new b has same shown = (tallies_stay p A R old new (ap (λ (r : RigState). r.tallies) same) has, some_all new.tallies (λ list. IsShown p list b) shown)
 
 -- what the rig shows of the record that was added
-shown_added : (p : Program) (A R : List StationRecord) (old new : RigState) (b : Body) → HasTallies p A R old.tallies → IsNext R b → Leaves p b old new → HasTallies p A R new.tallies × IfSome new.tallies (λ list. IsShown p list b)
+pub shown_added : (p : Program) (A R : List StationRecord) (old new : RigState) (b : Body) → HasTallies p A R old.tallies → IsNext R b → Leaves p b old new → HasTallies p A R new.tallies × IfSome new.tallies (λ list. IsShown p list b)
 shown_added p A R old new (body.Tested serial attempt staff outcome) has next leaves = tally_tested p A R old.tallies new.tallies serial attempt staff outcome has next leaves.tally
 shown_added p A R old new (body.Adopt q) has next leaves = other_added p A R old new (body.Adopt q) has leaves (λ list. tt)
 shown_added p A R old new (body.Enrol s) has next leaves = other_added p A R old new (body.Enrol s) has leaves (λ list. tt)

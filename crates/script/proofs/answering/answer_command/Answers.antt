@@ -49,7 +49,7 @@ returns-in-Err-Disk-clause-ended g c = rw c.in-Some.is (
       status_is = refl;
       how = inr (inl (record {
         why = inl refl;
-        may = λ tells. lost_may c.args.station c.args.number c.in-Some.command c.now-now.result (g.D.Disk.state c.in-Err-Disk.disk) (by_both c.args.station _ _ stopped.step stopped.some_step tells);
+        may = λ tells. lost_may c.args.station c.args.number c.in-Some.command c.now-now.result (g.R.Rig.state c.in-Err-Disk.rig) (g.D.Disk.state c.in-Err-Disk.disk) (stopped.bears tells);
         disk_goes_on = record { limit = stopped.limit; later = stopped.disk_later };
         rig_goes_on = record { kept = stopped.rig_kept; tallies = stopped.tallies };
         order = stopped.voltage;
@@ -89,7 +89,7 @@ returns-in-Err-Memory-clause-ended g c = rw c.in-Some.is (
       status_is = refl;
       how = inr (inl (record {
         why = inr refl;
-        may = λ tells. lost_may c.args.station c.args.number c.in-Some.command c.now-now.result (g.D.Disk.state c.in-Err-Memory.disk) (by_both c.args.station _ _ stopped.step stopped.some_step tells);
+        may = λ tells. lost_may c.args.station c.args.number c.in-Some.command c.now-now.result (g.R.Rig.state c.in-Err-Memory.rig) (g.D.Disk.state c.in-Err-Memory.disk) (stopped.bears tells);
         disk_goes_on = record { limit = stopped.limit; later = stopped.disk_later };
         rig_goes_on = record { kept = stopped.rig_kept; tallies = stopped.tallies };
         order = stopped.voltage;

@@ -18,4 +18,4 @@ pub returns-in-Err : goal.returns-in-Err
 returns-in-Err g c =
     let halt = c.in-Err.ensures in
     c.stopped.ensures c.args.station c.args.command _ _ c.now-now.result c.id-id.ensures c.now-now.ensures
-    (stopped-by _ _ c.args.station c.args.command c.now-now.result c.in-Err.stop halt.step halt.some_step halt.stop halt.limit halt.disk_later halt.rig halt.rig_kept halt.tallies halt.voltage)
+    (stopped-by _ _ c.args.station c.args.command c.now-now.result c.in-Err.stop halt.step halt.some_step halt.bears halt.stop halt.limit halt.disk_later halt.rig halt.rig_kept halt.tallies halt.voltage)
